@@ -1,4 +1,4 @@
--- Minkowski's inequality in the plane, over the native ℕ and with no subtraction.
+-- Minkowski's inequality in the plane, over ℕ and with no subtraction: what would be subtracted stands on the other side.
 -- Assumes nothing.
 use Prim.Native.Nat.{ℕ, zero, suc, _+_, _*_, _≤_, _<_, zero-le, suc-le-suc}
 use mathlib.Core.Path.{_≡_, refl, sym}

@@ -1,3 +1,5 @@
+pub mod Root
 pub mod Distance
 pub mod Close
-pub mod Costs
+pub mod Point
+pub mod Near

@@ -1,1 +1,2 @@
-// Enclosing arithmetic.
+// Enclosing arithmetic: the lower crate of document 01, on which every bound rests.
+pub mod roots;
