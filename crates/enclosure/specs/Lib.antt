@@ -3,3 +3,11 @@ pub mod Distance
 pub mod Close
 pub mod Point
 pub mod Near
+pub mod Exactly
+pub mod Rounding
+pub mod Units
+pub mod Doubles
+pub mod Steps
+pub mod Fair
+pub mod Range
+pub mod Start

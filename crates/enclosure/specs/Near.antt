@@ -164,7 +164,7 @@ pub record Rules {A B : Type 0} (o : Ops A) (o′ : Ops B) (R : ℕ → A → B 
 pub record Fair {B : Type 0} (o : Ops B) (value : B → Point) (Good : ℕ → B → Type 0) (Volts : ℕ → Type 0) (M limit a v s c : ℕ) : Type 0 where
   pub positive : (p : ℕ) → Volts p → 0 < p
   pub good-more : (j k : ℕ) (x : B) → j ≤ k → Good j x → Good k x
-  pub fair-none : (value (o .none) ≡ nothing) × Good 0 (o .none)
+  pub fair-none : Near M 0 nothing (value (o .none)) × Good 0 (o .none)
   pub fair-empty : (k : ℕ) (x : B) → k ≤ limit → Good k x → o .empty x ≡ isNothing (value x)
   pub fair-add : (k : ℕ) (x y : B) → k ≤ limit → Good k x → Good k y → Near M a (sum (value x) (value y)) (value (o .add x y)) × Good (k + 2 * a) (o .add x y)
   pub fair-inverse : (k : ℕ) (x : B) → k ≤ limit → Good k x → Near M v (inverse (value x)) (value (o .inverse x)) × Good (k + (c + 2 * v)) (o .inverse x)
@@ -178,7 +178,7 @@ pub fair-rules : {B : Type 0} (o : Ops B) (value : B → Point) (Good : ℕ → 
 fair-rules o value Good Volts M limit a v s c z w l₁ l₂ f =
     record {
       more = λ j k x y l h. (near-more M j k x (value y) l (h .0), f .good-more j k y l (h .1));
-      near-none = (rw (f .fair-none .0) (nothing-near M 0), f .fair-none .1);
+      near-none = f .fair-none;
       near-empty = λ k x y l h. near-nothing M k x (value y) z (omega arith) (h .0) ∙ sym (f .fair-empty k y l (h .1));
       near-add = λ k x x′ y y′ l h h′.
           let g = f .fair-add k y y′ l (h .1) (h′ .1) in
@@ -219,7 +219,7 @@ exact-fair M limit c =
     record {
       positive = λ p h. h;
       good-more = λ j k x l h. h;
-      fair-none = (refl, omega arith);
+      fair-none = (nothing-near M 0, omega arith);
       fair-empty = λ k x l h. refl;
       fair-add = λ k x y l h g. (near-refl M (sum x y) (mul-pos h g), mul-pos h g);
       fair-inverse = λ k x l h. (near-refl M (inverse x) (inverse-proper x), inverse-proper x);

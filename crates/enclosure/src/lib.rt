@@ -1,2 +1,77 @@
 // Enclosing arithmetic: the lower crate of document 01, on which every bound rests.
+// Points of the closed first quadrant in f64: impedances R + jX as they are, admittances G - jB as G and B.
+// Each function ensures that it computes its definition in specs/Doubles.antt; how near that is to the exact operation is proved in
+// specs/Fair.antt and specs/Amperes.antt.
 pub mod roots;
+
+ghost use mathlib.Core.Path.{_≡_};
+ghost use Rattle.enclosure.specs.Doubles.{none, whole, added, empty, inverted, scaled, boundsOf};
+
+pub struct Complex {
+    pub re: f64,
+    pub im: f64,
+}
+
+// Whole numbers on both sides of a size.
+pub struct Bounds {
+    pub lower: u64,
+    pub upper: u64,
+}
+
+// No admittance, no current.
+pub fn nothing() -> Complex
+    ensures { λ r. ⌜ r ≡ none ⌝ }
+{
+    Complex { re: 0.0, im: 0.0 }
+}
+
+// Two whole numbers as a point.
+pub fn of(re: u32, im: u32) -> Complex
+    ensures { λ r. ⌜ r ≡ whole re im ⌝ }
+{
+    Complex {
+        re: re as f64,
+        im: im as f64,
+    }
+}
+
+pub fn add(x: Complex, y: Complex) -> Complex
+    ensures { λ r. ⌜ r ≡ added x y ⌝ }
+{
+    Complex {
+        re: x.re + y.re,
+        im: x.im + y.im,
+    }
+}
+
+pub fn is_nothing(z: Complex) -> bool
+    ensures { λ r. ⌜ r ≡ empty z ⌝ }
+{
+    z.re + z.im == 0.0
+}
+
+// One over z, and nothing for nothing.
+pub fn inverse(z: Complex) -> Complex
+    ensures { λ r. ⌜ r ≡ inverted z ⌝ }
+{
+    let n = z.re * z.re + z.im * z.im;
+    if n == 0.0 {
+        z
+    } else {
+        Complex {
+            re: z.re / n,
+            im: z.im / n,
+        }
+    }
+}
+
+// p/q of z.
+pub fn scale(z: Complex, p: u32, q: u32) -> Complex
+    ensures { λ r. ⌜ r ≡ scaled p q z ⌝ }
+{
+    let t = p as f64 / q as f64;
+    Complex {
+        re: z.re * t,
+        im: z.im * t,
+    }
+}

@@ -1,0 +1,67 @@
+-- The calculation in f64, one definition for each function of src/. How near each is to the exact operation is proved in Fair and Amperes.
+use Prim.Native.Nat.{ℕ, zero, suc, _+_, _*_, _^_, _≤_, _<_}
+use mathlib.Core.Path.{_≡_}
+use mathlib.Core.Bool.{Bool, true, false}
+use lib.Ieee.{Float, binary64, ofBits, add, mul, div, eq, le}
+use Rattle.enclosure.specs.declared.Complex.{Complex}
+use Rattle.enclosure.specs.declared.Bounds.{Bounds}
+use Rattle.enclosure.specs.Units.{ofNat}
+use Rattle.enclosure.specs.Point.{pick, Ops}
+
+abbrev pub nought : Float
+nought = ofBits binary64 0
+
+-- no current, no admittance
+abbrev pub none : Complex
+none = record { re = nought; im = nought }
+
+-- two whole numbers as a point
+unfoldable pub whole : ℕ → ℕ → Complex
+whole a b = record { re = ofNat a; im = ofNat b }
+
+unfoldable pub added : Complex → Complex → Complex
+added x y = record { re = add binary64 (x .re) (y .re); im = add binary64 (x .im) (y .im) }
+
+unfoldable pub empty : Complex → Bool
+empty z = eq (add binary64 (z .re) (z .im)) nought
+
+-- the square of the size
+abbrev pub square : Complex → Float
+square z = add binary64 (mul binary64 (z .re) (z .re)) (mul binary64 (z .im) (z .im))
+
+-- one over z; nothing for nothing
+unfoldable pub inverted : Complex → Complex
+inverted z = pick (eq (square z) nought) z (record { re = div binary64 (z .re) (square z); im = div binary64 (z .im) (square z) })
+
+abbrev pub ratio : ℕ → ℕ → Float
+ratio p q = div binary64 (ofNat p) (ofNat q)
+
+-- p/q of z
+unfoldable pub scaled : ℕ → ℕ → Complex → Complex
+scaled p q z = record { re = mul binary64 (z .re) (ratio p q); im = mul binary64 (z .im) (ratio p q) }
+
+abbrev pub doubles : Ops Complex
+doubles = record { none = none; empty = empty; add = added; inverse = inverted; scale = scaled }
+
+-- ---- a whole number found bit by bit: the greatest that passes a test, where what passes stays below what does not
+abbrev pub climb : (ℕ → Bool) → ℕ → ℕ → ℕ
+climb test zero low = low
+climb test (suc k) low = climb test k (pick (test (low + 2 ^ k)) (low + 2 ^ k) low)
+
+-- the square of a whole number
+abbrev pub squared : ℕ → Float
+squared n = mul binary64 (ofNat n) (ofNat n)
+
+-- the greatest whole number below 2 ^ 53 whose square is at most m
+unfoldable pub rootBelow : Float → ℕ
+rootBelow m = climb (λ r. le (squared r) m) 53 0
+
+-- ---- whole bounds of √(p/q)·|z|, with a margin of one part in 2 ^ 30 that covers every rounding; 0 and 0 for nothing
+unfoldable pub lowerOf : ℕ → ℕ → Complex → ℕ
+lowerOf p q z = pick (empty z) 0 (rootBelow (mul binary64 (square z) (ratio (p * 1073741823) (q * 1073741824))))
+
+unfoldable pub upperOf : ℕ → ℕ → Complex → ℕ
+upperOf p q z = pick (empty z) 0 (rootBelow (mul binary64 (square z) (ratio (p * 1073741825) (q * 1073741824))) + 1)
+
+unfoldable pub boundsOf : ℕ → ℕ → Complex → Bounds
+boundsOf p q z = record { lower = lowerOf p q z; upper = upperOf p q z }
