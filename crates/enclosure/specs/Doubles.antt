@@ -44,7 +44,7 @@ abbrev pub doubles : Ops Complex
 doubles = record { none = none; empty = empty; add = added; inverse = inverted; scale = scaled }
 
 -- ---- a whole number found bit by bit: the greatest that passes a test, where what passes stays below what does not
-abbrev pub climb : (ℕ → Bool) → ℕ → ℕ → ℕ
+unfoldable pub climb : (ℕ → Bool) → ℕ → ℕ → ℕ
 climb test zero low = low
 climb test (suc k) low = climb test k (pick (test (low + 2 ^ k)) (low + 2 ^ k) low)
 
@@ -56,12 +56,15 @@ squared n = mul binary64 (ofNat n) (ofNat n)
 unfoldable pub rootBelow : Float → ℕ
 rootBelow m = climb (λ r. le (squared r) m) 53 0
 
--- ---- whole bounds of √(p/q)·|z|, with a margin of one part in 2 ^ 30 that covers every rounding; 0 and 0 for nothing
+-- ---- whole bounds of √(p/q)·|z|. The margin of one part in 2 ^ 30 covers every rounding; nothing has the bounds 0 and 0
+unfoldable pub sizeBelow : ℕ → ℕ → ℕ → Complex → ℕ
+sizeBelow margin p q z = rootBelow (mul binary64 (square z) (ratio (p * margin) (q * 1073741824)))
+
 unfoldable pub lowerOf : ℕ → ℕ → Complex → ℕ
-lowerOf p q z = pick (empty z) 0 (rootBelow (mul binary64 (square z) (ratio (p * 1073741823) (q * 1073741824))))
+lowerOf p q z = pick (empty z) 0 (sizeBelow 1073741823 p q z)
 
 unfoldable pub upperOf : ℕ → ℕ → Complex → ℕ
-upperOf p q z = pick (empty z) 0 (rootBelow (mul binary64 (square z) (ratio (p * 1073741825) (q * 1073741824))) + 1)
+upperOf p q z = pick (empty z) 0 (sizeBelow 1073741825 p q z + 1)
 
-unfoldable pub boundsOf : ℕ → ℕ → Complex → Bounds
+abbrev pub boundsOf : ℕ → ℕ → Complex → Bounds
 boundsOf p q z = record { lower = lowerOf p q z; upper = upperOf p q z }

@@ -7,6 +7,7 @@ pub mod Exactly
 pub mod Rounding
 pub mod Units
 pub mod Doubles
+pub mod Climb
 pub mod Steps
 pub mod Fair
 pub mod Range

@@ -5,7 +5,8 @@
 pub mod roots;
 
 ghost use mathlib.Core.Path.{_≡_};
-ghost use Rattle.enclosure.specs.Doubles.{none, whole, added, empty, inverted, scaled, boundsOf};
+ghost use Prim.Native.Nat.{_<_};
+ghost use Rattle.enclosure.specs.Doubles.{none, whole, added, empty, inverted, scaled, sizeBelow, lowerOf, upperOf, boundsOf};
 
 pub struct Complex {
     pub re: f64,
@@ -73,5 +74,51 @@ pub fn scale(z: Complex, p: u32, q: u32) -> Complex
     Complex {
         re: z.re * t,
         im: z.im * t,
+    }
+}
+
+// The greatest whole number whose square is at most margin/2^30 times p/q of |z|².
+fn size_below(z: Complex, p: u16, q: u16, margin: u32) -> u64
+    ensures { λ r. ⌜ r ≡ sizeBelow margin p q z ⌝ }
+{
+    let over = wide(p) * (margin as u64);
+    let under = wide(q) * 1073741824;
+    let t = over as f64 / under as f64;
+    roots::root_below((z.re * z.re + z.im * z.im) * t)
+}
+
+fn wide(x: u16) -> u64
+    ensures { λ r. ⌜ (r ≡ x) × (r < 65536) ⌝ }
+{
+    x as u64
+}
+
+// A whole number not above √(p/q)·|z|.
+pub fn lower(z: Complex, p: u16, q: u16) -> u64
+    ensures { λ r. ⌜ r ≡ lowerOf p q z ⌝ }
+{
+    if is_nothing(z) {
+        return 0;
+    }
+    size_below(z, p, q, 1073741823)
+}
+
+// A whole number not below √(p/q)·|z|.
+pub fn upper(z: Complex, p: u16, q: u16) -> u64
+    ensures { λ r. ⌜ r ≡ upperOf p q z ⌝ }
+{
+    if is_nothing(z) {
+        return 0;
+    }
+    size_below(z, p, q, 1073741825) + 1
+}
+
+// Whole numbers on both sides of √(p/q)·|z|.
+pub fn enclose(z: Complex, p: u16, q: u16) -> Bounds
+    ensures { λ r. ⌜ r ≡ boundsOf p q z ⌝ }
+{
+    Bounds {
+        lower: lower(z, p, q),
+        upper: upper(z, p, q),
     }
 }

@@ -1,6 +1,7 @@
 // Whole square roots.
 ghost use mathlib.Core.Path.{_≡_};
 ghost use Rattle.enclosure.specs.Root.{rootOf, rootUp};
+ghost use Rattle.enclosure.specs.Doubles.{rootBelow};
 
 // The greatest whole number whose square is at most x.
 pub fn root(x: u64) -> u64
@@ -21,4 +22,23 @@ pub fn root_up(x: u64) -> u64
         return 0;
     }
     root(x - 1) + 1
+}
+
+// The greatest whole number below 2^53 whose square is at most m, bit by bit.
+pub fn root_below(m: f64) -> u64
+    ensures { λ r. ⌜ r ≡ rootBelow m ⌝ }
+{
+    let mut low = 0u64;
+    let mut step = 9007199254740992u64;
+    let mut bits = 53u32;
+    while bits > 0 {
+        bits -= 1;
+        step = step / 2;
+        let next = low + step;
+        let x = next as f64;
+        if x * x <= m {
+            low = next;
+        }
+    }
+    low
 }
