@@ -12,3 +12,4 @@ pub mod Steps
 pub mod Fair
 pub mod Range
 pub mod Start
+pub mod Amperes

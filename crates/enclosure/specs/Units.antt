@@ -30,6 +30,10 @@ most = 2 ^ 1023
 unfoldable pub span : ℕ
 span = 2 ^ 500
 
+-- the sizes from 1/extent to extent have whole bounds
+unfoldable pub extent : ℕ
+extent = 2 ^ 450
+
 pub unit-pos : 0 < unit
 unfolding unit
 unit-pos = pow-pos 1074
@@ -53,6 +57,22 @@ span-ratio = lit≤ tt
 pub span-large : span * 2 ^ 100 ≤ unit
 unfolding span unit
 span-large = lit≤ tt
+
+pub extent-span : extent ≤ span
+unfolding extent span
+extent-span = lit≤ tt
+
+pub extent-unit : extent * extent * 2 ^ 120 ≤ unit
+unfolding extent unit
+extent-unit = lit≤ tt
+
+pub extent-most : extent * extent * 2 ^ 60 ≤ most
+unfolding extent most
+extent-most = lit≤ tt
+
+pub extent-pos : 0 < extent
+unfolding extent
+extent-pos = pow-pos 450
 
 -- x is w of the smallest, and which w
 abbrev pub Is : Float → ℕ → Type 0
