@@ -12,4 +12,6 @@ pub mod Steps
 pub mod Fair
 pub mod Range
 pub mod Start
+pub mod Chain
 pub mod Amperes
+pub mod Whole

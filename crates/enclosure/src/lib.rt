@@ -2,6 +2,7 @@
 // Points of the closed first quadrant in f64: impedances R + jX as they are, admittances G - jB as G and B.
 // Each function ensures that it computes its definition in specs/Doubles.antt; how near that is to the exact operation is proved in
 // specs/Fair.antt and specs/Amperes.antt.
+pub mod amperes;
 pub mod roots;
 
 ghost use mathlib.Core.Path.{_≡_};

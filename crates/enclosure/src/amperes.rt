@@ -1,0 +1,71 @@
+// Amperes as f64. An rms ampere and a peak ampere are two quantities, so that neither is taken for the other.
+// The contracts give the f64 operation; on whole numbers below 2^53 it is that of the whole numbers (specs/Whole.antt).
+ghost use mathlib.Core.Path.{_≡_};
+ghost use Prim.Native.Nat.{_≤_, _^_};
+ghost use lib.Ieee.{binary64, add, sub, lt};
+ghost use Rattle.enclosure.specs.Units.{ofNat};
+
+// Root-mean-square amperes.
+pub struct Rms(pub f64);
+
+// Peak amperes.
+pub struct Peak(pub f64);
+
+// A whole number as f64, nothing lost.
+fn whole(n: u64) -> f64
+    requires { ⌜ n ≤ 2 ^ 53 ⌝ }
+    ensures { λ r. ⌜ r ≡ ofNat n ⌝ }
+{
+    n as f64
+}
+
+pub fn rms_of(n: u64) -> Rms
+    requires { ⌜ n ≤ 2 ^ 53 ⌝ }
+    ensures { λ r. ⌜ r .0 ≡ ofNat n ⌝ }
+{
+    Rms(whole(n))
+}
+
+pub fn peak_of(n: u64) -> Peak
+    requires { ⌜ n ≤ 2 ^ 53 ⌝ }
+    ensures { λ r. ⌜ r .0 ≡ ofNat n ⌝ }
+{
+    Peak(whole(n))
+}
+
+pub fn add_rms(a: Rms, b: Rms) -> Rms
+    ensures { λ r. ⌜ r .0 ≡ add binary64 (a .0) (b .0) ⌝ }
+{
+    Rms(a.0 + b.0)
+}
+
+pub fn add_peak(a: Peak, b: Peak) -> Peak
+    ensures { λ r. ⌜ r .0 ≡ add binary64 (a .0) (b .0) ⌝ }
+{
+    Peak(a.0 + b.0)
+}
+
+// By how much a exceeds b.
+pub fn excess_rms(a: Rms, b: Rms) -> f64
+    ensures { λ r. ⌜ r ≡ sub binary64 (a .0) (b .0) ⌝ }
+{
+    a.0 - b.0
+}
+
+pub fn excess_peak(a: Peak, b: Peak) -> f64
+    ensures { λ r. ⌜ r ≡ sub binary64 (a .0) (b .0) ⌝ }
+{
+    a.0 - b.0
+}
+
+pub fn exceeds_rms(a: Rms, b: Rms) -> bool
+    ensures { λ r. ⌜ r ≡ lt (b .0) (a .0) ⌝ }
+{
+    a.0 > b.0
+}
+
+pub fn exceeds_peak(a: Peak, b: Peak) -> bool
+    ensures { λ r. ⌜ r ≡ lt (b .0) (a .0) ⌝ }
+{
+    a.0 > b.0
+}
