@@ -150,6 +150,30 @@ near-trans M k s x y y′ z l h g =
           (close-eq M s (third (y .re) (y′ .den) (x .den)) (third (y .im) (y′ .den) (x .den)) refl refl (close-scale M s (x .den) _ _ _ _ (g .close)))));
     }
 
+-- ---- equal as fractions
+pub record Same (x y : Point) : Type 0 where
+  pub re : x .re * y .den ≡ y .re * x .den
+  pub im : x .im * y .den ≡ y .im * x .den
+
+crossed : (r d s e f : ℕ) → r * e ≡ s * d → e * (r * f) ≡ d * (s * f)
+crossed r d s e f h = identity (r ∷ e ∷ f ∷ []) (search read depth 40 fits 20000) refl ∙ ap (λ (n : ℕ). n * f) h ∙ identity (s ∷ d ∷ f ∷ []) (search read depth 40 fits 20000) refl
+
+turned-round : (r d e : ℕ) → e * (r * d) ≡ d * (r * e)
+turned-round r d e = identity (r ∷ d ∷ e ∷ []) (search read depth 40 fits 20000) refl
+
+-- what is near a point is near its equals
+pub near-same : (M k : ℕ) (x y z : Point) → 0 < y .den → Same x y → Near M k x z → Near M k y z
+near-same M k x y z p s h = record {
+  left = p;
+  right = h .right;
+  close =
+      close-unscale M k (x .den) _ _ _ _ (h .left)
+      (close-eq M k
+      (crossed (x .re) (x .den) (y .re) (y .den) (z .den) (s .re)) (crossed (x .im) (x .den) (y .im) (y .den) (z .den) (s .im))
+      (turned-round (z .re) (x .den) (y .den)) (turned-round (z .im) (x .den) (y .den))
+      (close-scale M k (y .den) _ _ _ _ (h .close)));
+}
+
 -- ---- what rounded numbers promise: R k x y says that y is within k of x; a, v and s are what a sum, an inverse and a scaling cost
 pub record Rules {A B : Type 0} (o : Ops A) (o′ : Ops B) (R : ℕ → A → B → Type 0) (Volts : ℕ → Type 0) (limit a v s : ℕ) : Type 0 where
   pub more : (j k : ℕ) (x : A) (y : B) → j ≤ k → R j x y → R k x y
