@@ -1,0 +1,70 @@
+-- Document 01, "Factors": T(y), of a fraction y = n/d, as a fraction; and that it grows with y.
+-- Assumes nothing.
+use Prim.Native.Nat.{ℕ, zero, suc, _+_, _*_, _^_, _≤_, _<_}
+use mathlib.Core.Path.{refl}
+use mathlib.Core.List.{[], _∷_}
+use native.Mathlib.Omega.{arith}
+use native.Mathlib.Nat.{le-refl, pow-zero, pow-suc, mul-le-mul, mul-pos}
+use Rattle.algebra.specs.Reading.{from, read, _⊹_, _⋆_}
+
+-- m!·d^m: the denominator of (n/d)^m/m!, and of the sum that ends with it
+unfoldable pub under : ℕ → ℕ → ℕ
+under zero d = 1
+under (suc m) d = under m d * (suc m * d)
+
+-- the sum of (n/d)^k/k! for k = 0 to m, over `under m d`
+unfoldable pub over : ℕ → ℕ → ℕ → ℕ
+over zero n d = 1
+over (suc m) n d = over m n d * (suc m * d) + n ^ suc m
+
+-- "T(y): the sum of y^k/k! for k = 0 to 24, the term for k = 0 being 1." T(n/d) is tOver n d / tUnder d
+unfoldable pub tOver : ℕ → ℕ → ℕ
+tOver n d = over 24 n d
+
+unfoldable pub tUnder : ℕ → ℕ
+tUnder d = under 24 d
+
+-- ---- growth: the last term, then the sum
+term-le : (n d n′ d′ : ℕ) → n * d′ ≤ n′ * d → (m : ℕ) → n ^ m * under m d′ ≤ n′ ^ m * under m d
+unfolding under
+term-le n d n′ d′ h zero = rw (pow-zero n, pow-zero n′) (le-refl 1)
+term-le n d n′ d′ h (suc m) = rw (pow-suc n m, pow-suc n′ m) (step (n ^ m) (n′ ^ m) (under m d) (under m d′) (suc m) (term-le n d n′ d′ h m))
+  where
+    step : (p p′ u u′ s : ℕ) → p * u′ ≤ p′ * u → p * n * (u′ * (s * d′)) ≤ p′ * n′ * (u * (s * d))
+    step p p′ u u′ s ih = from (n ∷ d ∷ n′ ∷ d′ ∷ p ∷ p′ ∷ u ∷ u′ ∷ s ∷ []) (s ⋆ mul-le-mul ih h) (search read depth 40 fits 20000) refl
+
+over-le : (n d n′ d′ : ℕ) → n * d′ ≤ n′ * d → (m : ℕ) → over m n d * under m d′ ≤ over m n′ d′ * under m d
+unfolding over under
+over-le n d n′ d′ h zero = le-refl 1
+over-le n d n′ d′ h (suc m) =
+    step (over m n d) (over m n′ d′) (under m d) (under m d′) (suc m) (n ^ suc m) (n′ ^ suc m) (over-le n d n′ d′ h m) (term-le n d n′ d′ h (suc m))
+  where
+    step : (o o′ u u′ s p p′ : ℕ) → o * u′ ≤ o′ * u → p * (u′ * (s * d′)) ≤ p′ * (u * (s * d)) → (o * (s * d) + p) * (u′ * (s * d′)) ≤ (o′ * (s * d′) + p′) * (u * (s * d))
+    step o o′ u u′ s p p′ ih t = from (d ∷ d′ ∷ o ∷ o′ ∷ u ∷ u′ ∷ s ∷ p ∷ p′ ∷ []) (s * d * (s * d′) ⋆ ih ⊹ t) (search read depth 40 fits 20000) refl
+
+-- n/d ≤ n′/d′ gives T(n/d) ≤ T(n′/d′)
+pub t-grows : (n d n′ d′ : ℕ) → n * d′ ≤ n′ * d → tOver n d * tUnder d′ ≤ tOver n′ d′ * tUnder d
+unfolding tOver tUnder
+t-grows n d n′ d′ h = over-le n d n′ d′ h 24
+
+-- ---- both parts are above 0 where d is, and T is at least 1
+under-pos : (m d : ℕ) → 0 < d → 0 < under m d
+unfolding under
+under-pos zero d h = le-refl 1
+under-pos (suc m) d h = mul-pos (under-pos m d h) (mul-pos (omega arith) h)
+
+under-le-over : (m n d : ℕ) → under m d ≤ over m n d
+unfolding over under
+under-le-over zero n d = le-refl 1
+under-le-over (suc m) n d = omega (arith, mul-le-mul (under-le-over m n d) (le-refl (suc m * d)))
+
+pub tUnder-pos : (d : ℕ) → 0 < d → 0 < tUnder d
+unfolding tUnder
+tUnder-pos d h = under-pos 24 d h
+
+pub t-least : (n d : ℕ) → tUnder d ≤ tOver n d
+unfolding tUnder tOver
+t-least n d = under-le-over 24 n d
+
+pub tOver-pos : (n d : ℕ) → 0 < d → 0 < tOver n d
+tOver-pos n d h = omega (arith, tUnder-pos d h, t-least n d)

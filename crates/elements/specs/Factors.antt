@@ -1,0 +1,82 @@
+-- Document 01, "Factors": c, the sine, ux and f, as definitions on all numbers, and the laws that say they are what it says.
+-- Assumes nothing.
+use Prim.Native.Nat.{ℕ, _+_, _-_, _*_, _/_, _≤_, _<_}
+use mathlib.Core.Path.{_≡_, refl}
+use native.Mathlib.Omega.{arith}
+use native.Mathlib.Nat.{le-trans, mul-le-mul, mul-le-mul-right, div-mul-le-self, le-div-iff-mul-le}
+use lib.Dec.{leb, eqb}
+use borrow.Author.Tests.{le-leb, lt-leb}
+use Rattle.enclosure.specs.Point.{pick}
+use Rattle.enclosure.specs.Root.{rootOf, rootUp, root-is, root-le, root-below, root-greatest, rootUp-reaches, rootUp-least}
+
+-- "c: 110/100 above 1,000 V; up to and including 1,000 V, 105/100 at tolerance 6 and 110/100 at 10." In hundredths; a
+-- tolerance other than 6 counts as 10
+unfoldable pub factorC : ℕ → ℕ → ℕ
+factorC tolerance volts = pick (leb volts 1000) (pick (eqb tolerance 6) 105 110) 110
+
+pub factorC-above : (tolerance volts : ℕ) → 1000 < volts → factorC tolerance volts ≡ 110
+unfolding factorC
+factorC-above tolerance volts h = rw (lt-leb volts 1000 h)
+
+pub factorC-six : (volts : ℕ) → volts ≤ 1000 → factorC 6 volts ≡ 105
+unfolding factorC
+factorC-six volts h = rw (le-leb volts 1000 h)
+
+pub factorC-ten : (volts : ℕ) → volts ≤ 1000 → factorC 10 volts ≡ 110
+unfolding factorC
+factorC-ten volts h = rw (le-leb volts 1000 h)
+
+-- "Sine: the least s with s² ≥ 10⁸ − 10⁴·p², p the power factor; sin = s/10,000."
+unfoldable pub sineOf : ℕ → ℕ
+sineOf p = rootUp (100000000 - 10000 * (p * p))
+
+pub sine-reaches : (p : ℕ) → 100000000 ≤ sineOf p * sineOf p + 10000 * (p * p)
+unfolding sineOf
+sine-reaches p = omega (arith, rootUp-reaches (100000000 - 10000 * (p * p)))
+
+pub sine-least : (p s : ℕ) → 100000000 ≤ s * s + 10000 * (p * p) → sineOf p ≤ s
+unfolding sineOf
+sine-least p s h = rootUp-least (100000000 - 10000 * (p * p)) s (omega arith)
+
+pub sine-most : (p : ℕ) → sineOf p ≤ 10000
+sine-most p = sine-least p 10000 (omega arith)
+
+-- "ux: the greatest whole number with ux² ≤ uk² − uR²."
+unfoldable pub uxOf : ℕ → ℕ → ℕ
+uxOf uk uR = rootOf (uk * uk - uR * uR)
+
+pub ux-fits : (uk uR : ℕ) → uR ≤ uk → uxOf uk uR * uxOf uk uR + uR * uR ≤ uk * uk
+unfolding uxOf
+ux-fits uk uR l = omega (arith, root-is (uk * uk - uR * uR) .low, mul-le-mul l l)
+
+pub ux-greatest : (uk uR w : ℕ) → w * w + uR * uR ≤ uk * uk → w ≤ uxOf uk uR
+unfolding uxOf
+ux-greatest uk uR w h = root-greatest (uk * uk - uR * uR) w (omega arith)
+
+pub ux-most : (uk uR : ℕ) → uxOf uk uR ≤ uk
+unfolding uxOf
+ux-most uk uR = omega (arith, root-below (uk * uk - uR * uR) (uk + 1) (omega arith))
+
+pub ux-none : (uk uR : ℕ) → uk ≤ uR → uxOf uk uR ≡ 0
+unfolding uxOf
+ux-none uk uR l = omega (arith, root-below (uk * uk - uR * uR) 1 (omega (arith, mul-le-mul l l)))
+
+-- "f: the greatest whole number with f²·(10,000 + ρ²) ≤ 10¹⁶; X = Z·f/10⁶, R = X·ρ/100."
+unfoldable pub splitOf : ℕ → ℕ
+splitOf ρ = rootOf (10000000000000000 / (10000 + ρ * ρ))
+
+pub split-fits : (ρ : ℕ) → splitOf ρ * splitOf ρ * (10000 + ρ * ρ) ≤ 10000000000000000
+unfolding splitOf
+split-fits ρ =
+    le-trans (mul-le-mul-right (10000 + ρ * ρ) (root-is (10000000000000000 / (10000 + ρ * ρ)) .low)) (div-mul-le-self 10000000000000000 (10000 + ρ * ρ))
+
+pub split-greatest : (ρ f : ℕ) → f * f * (10000 + ρ * ρ) ≤ 10000000000000000 → f ≤ splitOf ρ
+unfolding splitOf
+split-greatest ρ f h = root-greatest (10000000000000000 / (10000 + ρ * ρ)) f (le-div-iff-mul-le {k = 10000 + ρ * ρ} (omega arith) .1 h)
+
+pub split-most : (ρ : ℕ) → splitOf ρ ≤ 1000000
+split-most ρ = root-le (splitOf ρ) 1000000 (omega (arith, split-fits ρ))
+
+-- ---- the square of a number of 32 bits
+pub square-most : (x : ℕ) → x < 4294967296 → x * x ≤ 4294967295 * 4294967295
+square-most x h = let l : x ≤ 4294967295 = omega arith in mul-le-mul l l

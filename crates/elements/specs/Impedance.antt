@@ -1,0 +1,45 @@
+-- Document 01, "Element impedances in ohms": each as an exact point, drawn from the record's fields and nominal volts alone
+-- and defined on all numbers. Assumes nothing.
+use Prim.Native.Nat.{ℕ, _+_, _*_}
+use Rattle.enclosure.specs.Point.{Point, times}
+use Rattle.elements.specs.Factors.{factorC, sineOf, uxOf, splitOf}
+
+-- "Line: (r + jx)·metres/(circuits·10⁶)."
+unfoldable pub line : ℕ → ℕ → ℕ → ℕ → Point
+line r x metres circuits = times metres (circuits * 1000000) (record { re = r; im = x; den = 1 })
+
+-- "K_T = 0.95·c/(1 + 0.6·ux/100,000)", with c in hundredths:
+-- 0.95·(c/100) = 95·c/10⁴ and 1 + 0.6·ux/10⁵ = (10⁶ + 6·ux)/10⁶, so K_T = 95·c·10⁶/(10⁴·(10⁶ + 6·ux)) = 9,500·c/(10⁶ + 6·ux)
+abbrev pub correctT : ℕ → ℕ → Point → Point
+correctT c ux z = times (9500 * c) (1000000 + 6 * ux) z
+
+-- "Transformer, own side: K_T·(uR + j·ux)/100,000·UrOwn²/(1,000·kVA), .., c by the lower of the two nominal voltages."
+unfoldable pub transformer : ℕ → ℕ → ℕ → ℕ → ℕ → ℕ → Point
+transformer tolerance Ulower UrOwn kVA uk uR =
+    correctT (factorC tolerance Ulower) (uxOf uk uR) (times (UrOwn * UrOwn) (1000 * kVA) (record { re = uR; im = uxOf uk uR; den = 100000 }))
+
+-- R/Z and X/Z by f: "X = Z·f/10⁶, R = X·ρ/100"
+unfoldable pub split : ℕ → Point
+split ρ = record { re = splitOf ρ * ρ; im = splitOf ρ * 100; den = 100000000 }
+
+-- "Feeder: Z = c·Un²/(1,000·kVA), split by f."
+unfoldable pub feeder : ℕ → ℕ → ℕ → ℕ → Point
+feeder tolerance Un kVA ρ = times (factorC tolerance Un * (Un * Un)) (100 * (1000 * kVA)) (split ρ)
+
+-- "K_G = (Un/Ur)·c/(1 + xd/100,000·sin), c by its bus", with c in hundredths and the sine s in ten-thousandths:
+-- 1 + xd/10⁵·s/10⁴ = (10⁹ + xd·s)/10⁹, so K_G = Un·c·10⁹/(Ur·100·(10⁹ + xd·s)) = Un·(10⁷·c)/(Ur·(10⁹ + xd·s))
+abbrev pub correctG : ℕ → ℕ → ℕ → ℕ → ℕ → Point → Point
+correctG c Un Ur xd s z = times (Un * (10000000 * c)) (Ur * (1000000000 + xd * s)) z
+
+-- "Generator: X = K_G·xd/100,000·Ur²/(1,000·kVA), R = X·ρ/100": (ρ + j·100)/100·xd/10⁵ is (xd·ρ + j·xd·100)/10⁷
+unfoldable pub generator : ℕ → ℕ → ℕ → ℕ → ℕ → ℕ → ℕ → Point
+generator tolerance Un Ur kVA xd ρ powerFactor =
+    correctG (factorC tolerance Un) Un Ur xd (sineOf powerFactor) (times (Ur * Ur) (1000 * kVA) (record { re = xd * ρ; im = xd * 100; den = 10000000 }))
+
+-- "Motor: Z = (10/ratio)·Ur²/(1,000·kVA), split by f."
+unfoldable pub motor : ℕ → ℕ → ℕ → ℕ → Point
+motor Ur kVA ratio ρ = times (10 * (Ur * Ur)) (ratio * (1000 * kVA)) (split ρ)
+
+-- "the sum of rated current·k": one converter's amperes, on the real axis, from tenths of an ampere and hundredths
+unfoldable pub converter : ℕ → ℕ → Point
+converter tenths k = record { re = tenths * k; im = 0; den = 1000 }

@@ -1,0 +1,6 @@
+pub mod Factors
+pub mod Exponential
+pub mod PeakTable
+pub mod Peak
+pub mod Impedance
+pub mod Worked

@@ -1,0 +1,86 @@
+-- Document 01, "Factors": the peak table. Its rule is proved once over the whole table, by a test that is computed; and
+-- so is how far each K(i) lies above 1.02 + 0.98/T. Assumes nothing.
+use Prim.Native.Nat.{ℕ, zero, suc, _+_, _*_, _/_, _≤_, _<_}
+use mathlib.Core.Path.{_≡_, refl, subst, sym}
+use mathlib.Core.Bool.{Bool, true, false}
+use mathlib.Core.List.{List, [], _∷_}
+use mathlib.Core.Logic.{⊎-elim}
+use native.Mathlib.Omega.{arith}
+use native.Mathlib.Nat.{div-lt-iff-lt-mul, lt-div-mul-add, le-of-suc-le-suc, eq-or-lt-of-le, not-suc-le-zero}
+use lib.Dec.{T, eqb, eqb→eq, leb, leb→le, lit≤}
+use lib.ListN.{getD}
+use Rattle.elements.specs.Exponential.{tOver, tUnder, over, under}
+
+-- the least whole number not below a/b
+unfoldable pub ceiling : ℕ → ℕ → ℕ
+ceiling a zero = 0
+ceiling a (suc c) = (a + c) / suc c
+
+pub ceiling-reaches : (a b : ℕ) → 0 < b → a ≤ ceiling a b * b
+unfolding ceiling
+ceiling-reaches a zero h = omega arith
+ceiling-reaches a (suc c) h = omega (arith, lt-div-mul-add {a = a + c} {b = suc c} h)
+
+pub ceiling-least : (a b k : ℕ) → 0 < b → a ≤ k * b → ceiling a b ≤ k
+unfolding ceiling
+ceiling-least a zero k h l = omega arith
+ceiling-least a (suc c) k h l = le-of-suc-le-suc (div-lt-iff-lt-mul {k = suc c} {x = a + c} {y = suc k} h .1 (omega arith))
+
+-- "Peak table, i = 0..230: K(i) = 1,020 + the least whole number not below 980/T(3i/100)."
+unfoldable pub peakFactor : ℕ → ℕ
+peakFactor i = 1020 + ceiling (980 * tUnder 100) (tOver (3 * i) 100)
+
+abbrev pub peaks : List ℕ
+peaks =
+    2000 ∷ 1972 ∷ 1943 ∷ 1916 ∷ 1890 ∷ 1864 ∷ 1839 ∷ 1815 ∷ 1791 ∷ 1769 ∷ 1747 ∷ 1725 ∷ 1704 ∷ 1684 ∷ 1664 ∷ 1645 ∷ 1627 ∷ 1609 ∷ 1592 ∷ 1575 ∷ 1558 ∷
+    1542 ∷ 1527 ∷ 1512 ∷ 1498 ∷ 1483 ∷ 1470 ∷ 1456 ∷ 1444 ∷ 1431 ∷ 1419 ∷ 1407 ∷ 1396 ∷ 1385 ∷ 1374 ∷ 1363 ∷ 1353 ∷ 1343 ∷ 1334 ∷ 1325 ∷ 1316 ∷ 1307 ∷
+    1298 ∷ 1290 ∷ 1282 ∷ 1275 ∷ 1267 ∷ 1260 ∷ 1253 ∷ 1246 ∷ 1239 ∷ 1233 ∷ 1226 ∷ 1220 ∷ 1214 ∷ 1209 ∷ 1203 ∷ 1198 ∷ 1193 ∷ 1187 ∷ 1182 ∷ 1178 ∷ 1173 ∷
+    1169 ∷ 1164 ∷ 1160 ∷ 1156 ∷ 1152 ∷ 1148 ∷ 1144 ∷ 1141 ∷ 1137 ∷ 1134 ∷ 1130 ∷ 1127 ∷ 1124 ∷ 1121 ∷ 1118 ∷ 1115 ∷ 1112 ∷ 1109 ∷ 1107 ∷ 1104 ∷ 1102 ∷
+    1099 ∷ 1097 ∷ 1095 ∷ 1093 ∷ 1090 ∷ 1088 ∷ 1086 ∷ 1084 ∷ 1083 ∷ 1081 ∷ 1079 ∷ 1077 ∷ 1076 ∷ 1074 ∷ 1072 ∷ 1071 ∷ 1069 ∷ 1068 ∷ 1066 ∷ 1065 ∷ 1064 ∷
+    1062 ∷ 1061 ∷ 1060 ∷ 1059 ∷ 1058 ∷ 1057 ∷ 1056 ∷ 1055 ∷ 1054 ∷ 1053 ∷ 1052 ∷ 1051 ∷ 1050 ∷ 1049 ∷ 1048 ∷ 1047 ∷ 1046 ∷ 1046 ∷ 1045 ∷ 1044 ∷ 1044 ∷
+    1043 ∷ 1042 ∷ 1042 ∷ 1041 ∷ 1040 ∷ 1040 ∷ 1039 ∷ 1039 ∷ 1038 ∷ 1038 ∷ 1037 ∷ 1037 ∷ 1036 ∷ 1036 ∷ 1035 ∷ 1035 ∷ 1034 ∷ 1034 ∷ 1034 ∷ 1033 ∷ 1033 ∷
+    1032 ∷ 1032 ∷ 1032 ∷ 1031 ∷ 1031 ∷ 1031 ∷ 1030 ∷ 1030 ∷ 1030 ∷ 1030 ∷ 1029 ∷ 1029 ∷ 1029 ∷ 1029 ∷ 1028 ∷ 1028 ∷ 1028 ∷ 1028 ∷ 1027 ∷ 1027 ∷ 1027 ∷
+    1027 ∷ 1027 ∷ 1026 ∷ 1026 ∷ 1026 ∷ 1026 ∷ 1026 ∷ 1026 ∷ 1025 ∷ 1025 ∷ 1025 ∷ 1025 ∷ 1025 ∷ 1025 ∷ 1025 ∷ 1025 ∷ 1024 ∷ 1024 ∷ 1024 ∷ 1024 ∷ 1024 ∷
+    1024 ∷ 1024 ∷ 1024 ∷ 1024 ∷ 1023 ∷ 1023 ∷ 1023 ∷ 1023 ∷ 1023 ∷ 1023 ∷ 1023 ∷ 1023 ∷ 1023 ∷ 1023 ∷ 1023 ∷ 1023 ∷ 1023 ∷ 1023 ∷ 1022 ∷ 1022 ∷ 1022 ∷
+    1022 ∷ 1022 ∷ 1022 ∷ 1022 ∷ 1022 ∷ 1022 ∷ 1022 ∷ 1022 ∷ 1022 ∷ 1022 ∷ 1022 ∷ 1022 ∷ 1022 ∷ 1022 ∷ 1022 ∷ 1022 ∷ 1022 ∷ 1022 ∷ 1022 ∷ 1022 ∷ 1021 ∷ []
+
+-- ---- a test that passes at each number below n, as one computed Bool
+abbrev all : (ℕ → Bool) → ℕ → Bool
+all f zero = true
+all f (suc n) = elim (f n) [ true ↦ all f n | false ↦ false ]
+
+below : (f : ℕ → Bool) (n : ℕ) → T (all f n) → (k : ℕ) → k < n → T (f k)
+below f zero t k h = absurd (not-suc-le-zero h)
+below f (suc n) t k h = on (f n) (all f n) t (⊎-elim (λ (e : k ≡ n). λ a b. subst (λ (m : ℕ). T (f m)) (sym e) a) (λ (l : k < n). λ a b. below f n b k l) (eq-or-lt-of-le (le-of-suc-le-suc h)))
+  where
+    on : (a b : Bool) → T (elim a [ true ↦ b | false ↦ false ]) → (T a → T b → T (f k)) → T (f k)
+    on true b t r = r tt t
+    on false b t r = absurd t
+
+right : ℕ → Bool
+unfolding peakFactor ceiling tOver tUnder over under
+right i = eqb (getD peaks i 0) (peakFactor i)
+
+pub peaks-rule : (i : ℕ) → i < 231 → getD peaks i 0 ≡ peakFactor i
+unfolding right
+peaks-rule i h = eqb→eq (getD peaks i 0) (peakFactor i) (below right 231 tt i h)
+
+-- ---- the upper side: for i below 230, 1.0035·K(i)/1,000 is at most 1.02·(1.02 + 0.98/T(3·(i + 1.1)/100))
+abbrev pub slack : ℕ
+slack = 10035
+
+narrow : ℕ → Bool
+unfolding peakFactor ceiling tOver tUnder over under
+narrow i = leb (slack * peakFactor i * tOver (3 * (10 * i + 11)) 1000) (102000 * (102 * tOver (3 * (10 * i + 11)) 1000 + 98 * tUnder 1000))
+
+pub peaks-near : (i : ℕ) → i < 230
+    → slack * peakFactor i * tOver (3 * (10 * i + 11)) 1000 ≤ 102000 * (102 * tOver (3 * (10 * i + 11)) 1000 + 98 * tUnder 1000)
+unfolding narrow
+peaks-near i h =
+    leb→le (slack * peakFactor i * tOver (3 * (10 * i + 11)) 1000) (102000 * (102 * tOver (3 * (10 * i + 11)) 1000 + 98 * tUnder 1000))
+    (below narrow 230 tt i h)
+
+-- at the table's end 0.98/T is left out
+pub peaks-near-last : slack * peakFactor 230 ≤ 102000 * 102
+unfolding peakFactor ceiling tOver tUnder over under
+peaks-near-last = lit≤ tt

@@ -1,0 +1,2 @@
+// The elements of a network: document 01's factors, its peak table and its element impedances.
+pub mod factors;
