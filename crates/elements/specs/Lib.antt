@@ -3,4 +3,6 @@ pub mod Exponential
 pub mod PeakTable
 pub mod Peak
 pub mod Impedance
+pub mod Sizes
+pub mod Rounded
 pub mod Worked

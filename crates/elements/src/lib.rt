@@ -1,2 +1,3 @@
 // The elements of a network: document 01's factors, its peak table and its element impedances.
 pub mod factors;
+pub mod impedances;

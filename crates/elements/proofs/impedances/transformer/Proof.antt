@@ -1,0 +1,67 @@
+-- `elements::impedances::transformer` computes its definition. Assumes nothing.
+use mathlib.Core.Path.{_≡_, refl, sym, ap, _∙_}
+use Prim.Native.Nat.{ℕ, _+_, _*_, _≤_, _<_}
+use native.Mathlib.Nat.{mul-le-mul}
+use native.Mathlib.Omega.{arith}
+use borrow.Author.Needs.{needs}
+use borrow.Author.Tests.{le-leb, lt-leb}
+use Rattle.elements.specs.Factors.{factorC, uxOf, ux-most}
+use Rattle.elements.specs.Sizes.{factorC-sized}
+use Rattle.elements.specs.Rounded.{transformerBy}
+use Rattle.elements.proofs.impedances.transformer.Statement.{statement}
+use Rattle.elements.proofs.impedances.transformer.Tie as tie
+
+nothing-requires : tie.Need-nothing-requires
+nothing-requires c κs = search needs
+
+returns : tie.Need-returns
+unfolding transformerBy
+returns c = rw (c .nothing .ensures, lt-leb (c .before .before .args .uk) 30000 (c .before .if1 .taken))
+
+reactance-requires : tie.Need-reactance-requires
+reactance-requires c κs = search needs
+
+voltage-factor-requires : tie.Need-voltage-factor-requires
+voltage-factor-requires c κs = search needs
+
+of-requires : tie.Need-of-requires
+of-requires c κs = search needs
+
+scale-requires : tie.Need-scale-requires
+scale-requires c κs = search needs
+
+scale-requires-2 : tie.Need-scale-requires-2
+scale-requires-2 c κs = search needs
+
+mul-scale : tie.Need-mul-scale
+mul-scale c = record { fits = rw (c .before .before .before .voltage-factor .ensures) (omega (arith, factorC-sized (c .before .before .before .before .before .before .args .tolerance) (c .before .before .before .before .before .before .args .lower) .1)) }
+
+mul-scale-2 : tie.Need-mul-scale-2
+mul-scale-2 c = record { fits = rw (c .before .before .before .before .reactance .ensures) (omega (arith, ux-most (c .before .before .before .before .before .before .args .uk) (c .before .before .before .before .before .before .args .ur), c .before .before .before .before .before .if1 .left)) }
+
+add-scale : tie.Need-add-scale
+add-scale c = record { fits = rw (c .before .before .before .before .reactance .ensures) (omega (arith, ux-most (c .before .before .before .before .before .before .args .uk) (c .before .before .before .before .before .before .args .ur), c .before .before .before .before .before .if1 .left)) }
+
+scale-requires-3 : tie.Need-scale-requires-3
+scale-requires-3 c κs = search needs
+
+returns-2 : tie.Need-returns-2
+unfolding transformerBy
+returns-2 c = let s = c .before .before .before .before .before .before .before in rw (c .scale3 .ensures, c .before .scale2 .ensures, c .before .before .scale .ensures, c .before .before .before .of .ensures, c .before .before .before .before .voltage-factor .ensures, c .before .before .before .before .before .reactance .ensures, le-leb (s .args .uk) 30000 (c .before .before .before .before .before .before .if1 .left))
+
+pub transformer-spec : {M : Type 1} → statement M
+transformer-spec =
+    tie.close
+    (tie.spec
+    nothing-requires
+    returns
+    reactance-requires
+    voltage-factor-requires
+    of-requires
+    scale-requires
+    scale-requires-2
+    mul-scale
+    mul-scale-2
+    add-scale
+    scale-requires-3
+    returns-2)

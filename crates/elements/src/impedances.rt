@@ -1,0 +1,83 @@
+// The element impedances in f64, in ohms. Each equals its definition in specs/Rounded.antt for every argument; how near that is
+// to the exact impedance is proved in specs/Nearness.antt.
+use crate::factors::reactance;
+use crate::factors::sine;
+use crate::factors::split_factor;
+use crate::factors::voltage_factor;
+use enclosure::Complex;
+use enclosure::nothing;
+use enclosure::of;
+use enclosure::scale;
+ghost use mathlib.Core.Path.{_≡_};
+ghost use Rattle.elements.specs.Rounded.{lineBy, transformerBy, splitBy, feederBy, motorBy, generatorBy, converterBy};
+
+// r and x in micro-ohms per metre.
+pub fn line(r: u32, x: u32, metres: u32, circuits: u32) -> Complex
+    ensures { λ z. ⌜ z ≡ lineBy r x metres circuits ⌝ }
+{
+    scale(scale(of(r, x), metres, circuits), 1, 1_000_000)
+}
+
+// On the bus's own side; `lower` is the lower of the two nominal voltages.
+pub fn transformer(tolerance: u32, lower: u32, own: u32, kva: u32, uk: u32, ur: u32) -> Complex
+    ensures { λ z. ⌜ z ≡ transformerBy tolerance lower own kva uk ur ⌝ }
+{
+    if 30_000 < uk {
+        return nothing();
+    }
+    let ux = reactance(uk, ur);
+    let c = voltage_factor(tolerance, lower);
+    let z = scale(scale(of(ur, ux), own, kva), own, 100_000_000);
+    scale(z, 9_500 * c, 1_000_000 + 6 * ux)
+}
+
+// R and X of an impedance of 10^8 ohms whose R/X is rho hundredths.
+fn split(rho: u32) -> Complex
+    ensures { λ z. ⌜ z ≡ splitBy rho ⌝ }
+{
+    let f = split_factor(rho);
+    of(f * rho, f * 100)
+}
+
+pub fn feeder(tolerance: u32, volts: u32, kva: u32, rho: u32) -> Complex
+    ensures { λ z. ⌜ z ≡ feederBy tolerance volts kva rho ⌝ }
+{
+    let z = scale(scale(split(rho), volts, kva), volts, 100_000);
+    scale(z, voltage_factor(tolerance, volts), 100_000_000)
+}
+
+pub fn motor(rated: u32, kva: u32, ratio: u32, rho: u32) -> Complex
+    ensures { λ z. ⌜ z ≡ motorBy rated kva ratio rho ⌝ }
+{
+    let z = scale(scale(split(rho), rated, kva), rated, ratio);
+    scale(scale(z, 1, 100_000), 1, 100_000)
+}
+
+pub fn generator(
+    tolerance: u32,
+    volts: u32,
+    rated: u32,
+    kva: u32,
+    xd: u32,
+    rho: u32,
+    power_factor: u32,
+) -> Complex
+    ensures { λ z. ⌜ z ≡ generatorBy tolerance volts rated kva xd rho «power_factor» ⌝ }
+{
+    if 100_000 < xd {
+        return nothing();
+    }
+    if 200 < rho {
+        return nothing();
+    }
+    let z = scale(scale(of(xd * rho, xd * 100), rated, kva), volts, 1_000);
+    let c = voltage_factor(tolerance, volts);
+    scale(z, c, 1_000_000_000 + xd * sine(power_factor))
+}
+
+// A converter's current in amperes, on the real axis.
+pub fn converter(tenths: u32, k: u32) -> Complex
+    ensures { λ z. ⌜ z ≡ converterBy tenths k ⌝ }
+{
+    scale(of(tenths, 0), k, 1_000)
+}
