@@ -5,4 +5,5 @@ pub mod Peak
 pub mod Impedance
 pub mod Sizes
 pub mod Rounded
+pub mod Nearness
 pub mod Worked
