@@ -6,4 +6,5 @@ pub mod Impedance
 pub mod Sizes
 pub mod Rounded
 pub mod Nearness
+pub mod Place
 pub mod Worked
