@@ -25,7 +25,7 @@ widened nan n h = absurd h
 widened (inf s) n h = absurd h
 widened (fin s m e) n h = (h .0, ap (λ (w : ℕ). w * unit) (sym (mul-one (m * up e)) ∙ h .1) ∙ mul-right-comm n (down e) unit)
 
-is-whole : (n : ℕ) → n < 2 ^ 32 → Is (ofNat n) (n * unit)
+pub is-whole : (n : ℕ) → n < 2 ^ 32 → Is (ofNat n) (n * unit)
 is-whole n l = widened (ofNat n) n (exact n (omega arith))
 
 units-whole : (n : ℕ) → n < 2 ^ 32 → unitsOf (ofNat n) ≡ n * unit

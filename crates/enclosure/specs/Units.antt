@@ -175,3 +175,11 @@ square-rounds n l =
     moved (mul binary64 (ofNat n) (ofNat n)) (round binary64 false (n * n) (1 * 1)) (n * n * unit) 1 1 (n * n * unit) (1 * 1)
     (mul-at binary64 (ofNat n) (ofNat n) n 1 n 1 (pow-pos 0) (pow-pos 0) (exact n l) (exact n l)) (pow-pos 0) (sym (one-mul (n * n * unit))) refl
     (rounded (n * n) (1 * 1) (pow-pos 0) (le-trans (mul-le-mul l l) squares-most))
+
+-- ---- 2 ^ -20
+unfoldable pub sliver : ℕ
+sliver = 2 ^ 1054
+
+pub sliver-unit : unit ≡ 1048576 * sliver
+unfolding sliver unit
+sliver-unit = refl

@@ -1,0 +1,199 @@
+"""The gate of this repository, started by ./test; README.md says how it decides.
+
+Prints what each part prints, then a table of the parts, the reasons of failure, and last `N passed, M failed`."""
+import os
+import re
+import shutil
+import subprocess
+import sys
+import time
+from pathlib import Path
+
+COUNT = re.compile(r"(\d+) passed, (\d+) failed")
+
+
+def run(command):
+    """Runs a command and passes on what it prints: its status, its lines, and the count on its last line, if it has one."""
+    lines = []
+    try:
+        child = subprocess.Popen(command, stdin=subprocess.DEVNULL, stdout=subprocess.PIPE, stderr=subprocess.STDOUT,
+                                 encoding="utf-8", errors="replace")
+    except OSError as error:
+        print(error)
+        return 127, [str(error)], None
+    with child:
+        for line in child.stdout:
+            print(line, end="")
+            lines.append(line.rstrip("\n"))
+    count = COUNT.fullmatch(lines[-1]) if lines else None
+    return child.returncode, lines, count and (int(count[1]), int(count[2]))
+
+
+def read(path):
+    return Path(path).read_text(encoding="utf-8", errors="replace")
+
+
+# ---- the files of the repository
+
+def listed_crates():
+    """The names that crates.txt lists, in its order."""
+    lines = [line.split("#")[0] for line in read("crates.txt").splitlines()] if os.path.isfile("crates.txt") else []
+    return [line.split(":")[0].strip() for line in lines if line.strip()]
+
+
+def source_files():
+    """Every .rt and .antt file that git tracks, or that lies in the tree outside target/, where rt keeps what it makes."""
+    found = set()
+    if shutil.which("git"):
+        tracked = subprocess.run(["git", "ls-files", "-z"], stdout=subprocess.PIPE, stderr=subprocess.DEVNULL).stdout
+        found.update(os.fsdecode(tracked).split("\0"))
+    for folder, below, files in os.walk("."):
+        below[:] = [name for name in below if name != ".git" and (folder, name) != (".", "target")]
+        found.update(os.path.relpath(os.path.join(folder, name)) for name in files)
+    return sorted(name for name in found if name.endswith((".rt", ".antt")))
+
+
+def is_held(file, crates):
+    """Whether a listed crate holds the file: below its src/ for Rattle, below its specs/ or proofs/ for antt."""
+    top, crate, part, *rest = (file.split("/") + ["", "", ""])[:4]
+    kind = ".rt" if part == "src" else ".antt" if part in ("specs", "proofs") else None
+    return top == "crates" and crate in crates and kind is not None and file.endswith(kind)
+
+
+def layout(crates):
+    """What is wrong with the repository's files, a reason each."""
+    reasons = [] if crates else ["crates.txt: it is absent or lists no crate"]
+    for name in sorted(set(crates)):
+        if crates.count(name) > 1:
+            reasons.append(f"crates.txt: {name} is listed twice")
+        if not os.path.isdir(f"crates/{name}"):
+            reasons.append(f"crates.txt: {name} is listed, and there is no folder crates/{name}")
+    for folder in sorted(Path("crates").glob("*")):
+        if folder.is_dir() and folder.name not in crates:
+            reasons.append(f"{folder}: crates.txt does not list this folder")
+    for file in source_files():
+        if not is_held(file, crates):
+            reasons.append(f"{file}: no listed crate holds this file, so nothing proves it")
+        elif os.path.isfile(file):
+            code = [line.split("--")[0] for line in read(file).splitlines()]
+            if any(re.match(r"\s*axiom\s", line) for line in code):
+                reasons.append(f"{file}: it declares an axiom")
+            if any("Prim.Axiom" in line for line in code):
+                reasons.append(f"{file}: it uses Prim.Axiom, the module of the axioms lem and ac")
+    return reasons
+
+
+# ---- rt ci and the must-fail edits
+
+def prove(crates, edits):
+    """Runs rt ci, and counts the crates that it proved and whose programs wrote what they should."""
+    status, lines, count = run(["rt", "ci"])
+    failed = [name for line in lines if line.startswith("rt: FAILED:") for name in line.split()[2:]]
+    bad = [name for name in failed if "/" not in name]  # NAME/LABEL is an edit, which `refusals` counts
+    bad += [name for name in crates if name not in bad and not any(line.startswith(f"rt: {name} proved (") for line in lines)]
+    reasons = []
+    for name in bad:
+        functions = [line.split(": ")[0] for line in lines if re.match(rf"fn {name}::.*: (not proved|no proof)", line)]
+        reasons.append(f"rt ci: {name} is not proved, or its program fails" + "".join("; " + text for text in functions))
+    if not failed and (status != 0 or count != (len(crates) + len(edits), 0)):
+        reasons.append(f"rt ci: status {status} and the count {count}, for {len(crates)} crates and {len(edits)} edits")
+    return len(crates) - len(set(bad) & set(crates)), len(bad), reasons
+
+
+# How the first error of a log begins, and the name of the declaration that it refuses. An error with no such name says
+# that a text cannot be read, or that a file or a name is not there.
+ERROR = re.compile(r"(?!note: )(?:[^`]*?: )?error(?:\[[\w-]+\])?: (?:`([^`]+)`: )?")
+# Declarations that hold no proof: an error there says that a statement makes no sense, not that it is false.
+STATEMENT = ("Inv-", "μ-", "requires-", "ensures-")
+# Errors of a text that does not parse, or that speaks of a name, a need, a field or an argument that is not there.
+MISFIT = re.compile(
+    r"can be named from here|not in scope|no constructor `|not a constructor|operand is missing|operators of one level"
+    r"|has no field|projects from a record|not a record type|needs a function|applied to an argument but|does not define it")
+NEED_FOR_NEED = re.compile(r"but this has type `[\w.]*\bNeed-")
+
+
+def judge(log):
+    """Why the log of a must-fail edit does not show that a fact fails: a reason, or None where it shows that."""
+    if re.search(r"^logic=proved ", log, re.M):
+        return "NOT REFUSED: the crate is still proved with this edit"
+    if not re.search(r"^logic=not-proved", log, re.M):
+        return "it did not reach the prover"
+    entries = re.split(r"\n(?!  )", log)  # a line together with the indented lines below it
+    errors = [entry for entry in entries if ERROR.match(entry) and "was not admitted" not in entry.splitlines()[0]]
+    if not errors:
+        searched = any(re.match(r"fn .*: no proof: .*`search` does not close", entry) for entry in entries)
+        return None if searched else "refused, and the log names no fact that fails"
+    first = errors[0].splitlines()[0]
+    name = ERROR.match(first)[1]
+    if name and not name.startswith(STATEMENT) and not MISFIT.search(first) and not NEED_FOR_NEED.search(errors[0]):
+        return None
+    return "refused only for its shape: " + re.sub(r"^.*?/target/must-fail/[^/]+/[^/]+/", "", first)[:240]
+
+
+def refusals(edits):
+    """Counts the edits that rt ci tried and that were refused because a fact no longer holds."""
+    reasons = []
+    for edit in edits:
+        log = Path("target/must-fail", edit.parts[1], edit.stem, ".log")
+        if edit.suffix != ".edit":
+            reason = "it is no .edit file, so nothing tries it"
+        elif re.search(r"^file: proofs/", read(edit), re.M):
+            reason = "it edits a proof, which shows nothing of the code"
+        else:
+            reason = judge(read(log)) if log.is_file() else "it has no log: rt ci did not try it"
+        if reason:
+            reasons.append(f"{edit}: {reason}")
+    return len(edits) - len(reasons), len(reasons), reasons
+
+
+# ---- the other tests
+
+def try_test(path):
+    """Runs one test of tests/ and takes the count on its last line."""
+    if not os.access(path, os.X_OK):
+        return 0, 1, [f"{path}: it is not executable"]
+    status, _, count = run([f"./{path}"])
+    passed, failed = count or (0, 1)
+    reasons = []
+    if not count:
+        reasons.append(f"{path}: its last line is no count 'N passed, M failed'")
+    elif failed or not passed:
+        reasons.append(f"{path}: {passed} passed, {failed} failed")
+    if status != 0:
+        reasons.append(f"{path}: it ended with status {status}")
+    return passed, failed, reasons
+
+
+def main():
+    os.chdir(Path(__file__).resolve().parent.parent)
+    sys.stdout.reconfigure(encoding="utf-8", errors="replace", line_buffering=True)
+    crates = listed_crates()
+    edits = sorted(Path("crates").glob("*/must-fail/*"))
+    reasons = layout(crates)
+    passed, failed = 0, len(reasons)
+    if reasons:
+        print("Nothing was proved or run: the repository's files are to be put right first.")
+    else:
+        parts = [("crates (rt ci)", prove, crates, edits), ("must-fail edits (rt ci)", refusals, edits)]
+        parts += [(str(path), try_test, path) for path in sorted(Path("tests").glob("check-*"))]
+        table = [("part", "passed", "failed", "seconds")]
+        for name, work, *arguments in parts:
+            print(f"---- {name}")
+            began = time.monotonic()
+            good, bad, why = work(*arguments)
+            bad = max(bad, 1 if why else 0)
+            table.append((name, good, bad, round(time.monotonic() - began)))
+            passed, failed, reasons = passed + good, failed + bad, reasons + why
+        print("----")
+        for row in table:
+            print("{:<32}{:>8}{:>8}{:>9}".format(*row))
+        if passed == 0:
+            reasons.append("nothing passed")
+    for reason in reasons:
+        print(f"FAILED: {reason}")
+    print(f"{passed} passed, {failed} failed")
+    return 1 if reasons else 0
+
+
+if __name__ == "__main__":
+    sys.exit(main())
