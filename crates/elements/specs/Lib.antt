@@ -7,4 +7,5 @@ pub mod Sizes
 pub mod Rounded
 pub mod Nearness
 pub mod Place
+pub mod PlaceLaw
 pub mod Worked
