@@ -8,4 +8,5 @@ pub mod Rounded
 pub mod Nearness
 pub mod Place
 pub mod PlaceLaw
+pub mod Currents
 pub mod Worked
