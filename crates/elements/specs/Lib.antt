@@ -9,4 +9,5 @@ pub mod Nearness
 pub mod Place
 pub mod PlaceLaw
 pub mod Currents
+pub mod Figures
 pub mod Worked

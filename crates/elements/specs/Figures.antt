@@ -1,0 +1,164 @@
+-- From a near admittance to the machines' bounds and peak, and from a near current to the converters': they keep document 01's comparisons.
+-- Assumes nothing.
+use Prim.Native.Nat.{ℕ, zero, suc, _+_, _-_, _*_, _^_, min, _≤_, _<_}
+use mathlib.Core.Path.{_≡_, refl, sym, _∙_, ap}
+use mathlib.Core.List.{[], _∷_}
+use mathlib.Core.Logic.{_⊎_, inl, inr, ⊎-elim}
+use native.Mathlib.Omega.{arith}
+use native.Mathlib.Nat.{le-refl, le-trans, mul-le-mul, mul-pos, min-eq-left}
+use lib.Dec.{lit<, lit≤}
+use lib.Pow.{pow-mono}
+use Rattle.algebra.specs.Reading.{poly, from, from-over, read, _⊹_, _⋆_}
+use Rattle.enclosure.specs.Close.{norm}
+use Rattle.enclosure.specs.Point.{Point, times, exact}
+use borrow.Author.Tests.{eqb-true, eq-eqb}
+use Rattle.enclosure.specs.Near.{Near, NearTo, Rules, fair-rules, near-nothing}
+use Rattle.enclosure.specs.declared.Complex.{Complex}
+use Rattle.enclosure.specs.Steps.{parts}
+use Rattle.enclosure.specs.Units.{unit, extent}
+use Rattle.enclosure.specs.Doubles.{scaled, doubles, lowerOf, upperOf}
+use Rattle.enclosure.specs.Fair.{value, size, Fine}
+use Rattle.enclosure.specs.Range.{Between, reach, Good, Volts, doubles-fair}
+use Rattle.enclosure.specs.Amperes.{Enclosed, Extent, encloses}
+use Rattle.elements.specs.Exponential.{tOver, tUnder, t-least, tOver-pos}
+use Rattle.elements.specs.PeakTable.{peakFactor, ceiling, ceiling-least}
+use Rattle.elements.specs.Peak.{PeakBound, peakOver, peakUnder, peak-bound, Index}
+use Rattle.elements.specs.Place.{placeOf}
+use Rattle.elements.specs.PlaceLaw.{place-index}
+use Rattle.elements.specs.Currents.{currentBy, machinePeakBy, converterPeakBy}
+
+-- ---- a size that is good after a few steps has whole bounds
+reach-extent : (d : ℕ) → d ≤ 50 → reach 200 d ≤ extent
+unfolding extent
+reach-extent d l = let m : 200 + 5 * d ≤ 450 = omega arith in pow-mono m
+
+wide : (e f u s : ℕ) → e ≤ f → (u ≤ s * e) × (s ≤ u * e) → (u ≤ s * f) × (s ≤ u * f)
+wide e f u s l h = (
+  from (e ∷ f ∷ u ∷ s ∷ []) (h .0 ⊹ s ⋆ l) (search read depth 40 fits 20000) refl,
+  from (e ∷ f ∷ u ∷ s ∷ []) (h .1 ⊹ u ⋆ l) (search read depth 40 fits 20000) refl,
+)
+
+good-extent : (k₀ k : ℕ) (z : Complex) → k - k₀ ≤ 50 → Good 200 k₀ k z → Extent (size z)
+good-extent k₀ k z l g = ⊎-elim (λ e. inl e) (λ h. inr (wide (reach 200 (k - k₀)) extent unit (size z) (reach-extent (k - k₀) l) (h .1))) (g .range)
+
+products : (k : ℕ) → k ≤ 900000 → 2 * ((k + 46) * (k + 46 + 1)) ≤ 1 * parts
+products k l = let p : k + 46 ≤ 900046 = omega arith in let q : k + 46 + 1 ≤ 900047 = omega arith in omega (arith, mul-le-mul p q)
+
+rules : (k : ℕ) → k ≤ 900000 → Rules exact doubles (NearTo value (Good 200 k) parts) Volts (k + 46) 4 13 8
+rules k l = fair-rules doubles value (Good 200 k) Volts parts (k + 46) 2 6 4 1 (omega arith) (omega arith) (omega arith) (products k l) (doubles-fair 200 k (k + 46) (omega arith))
+
+-- √3·I as an exact point: c·Un·Y, c in hundredths
+abbrev pub driven : ℕ → ℕ → Point → Point
+driven c Un P = times c 100 (times Un 1 P)
+
+-- I² of document 01 as a fraction: (c·Un)²·|Y|²/3
+abbrev pub squareOver : ℕ → ℕ → Point → ℕ
+squareOver c Un P = c * Un * (c * Un) * norm (P .re) (P .im)
+
+abbrev pub squareUnder : Point → ℕ
+squareUnder P = 30000 * (P .den * P .den)
+
+-- ---- over plain numbers: the point is (A, B)/D
+current-room : (c u A B D : ℕ) → c * u * (c * u) * norm A B ≤ 2 ^ 100 * (10000 * (D * D)) → 1 * norm (A * u * c) (B * u * c) ≤ 3 * (2 ^ 104 * (D * 1 * 100 * (D * 1 * 100)))
+current-room c u A B D h = from (c ∷ u ∷ A ∷ B ∷ D ∷ []) h (search read depth 40 fits 20000) refl
+
+peak-room : (K c u A B D : ℕ) → K ≤ 2000 → c * u * (c * u) * norm A B ≤ 2 ^ 100 * (10000 * (D * D)) → 2 * norm (A * u * c * K) (B * u * c * K) ≤ 3 * (2 ^ 104 * (D * 1 * 100 * 1000 * (D * 1 * 100 * 1000)))
+peak-room K c u A B D l h = from (K ∷ c ∷ u ∷ A ∷ B ∷ D ∷ []) (2 * (c * u * (c * u) * norm A B) ⋆ mul-le-mul l l ⊹ 8000000 ⋆ h) (search read depth 40 fits 20000) refl
+
+peak-over : (K c u A B D n : ℕ) → 2 * norm (A * u * c * K) (B * u * c * K) ≤ 3 * (n * n * (D * 1 * 100 * 1000 * (D * 1 * 100 * 1000))) → 2 * (c * u * (c * u) * norm A B) * (K * K) ≤ 1000000 * (30000 * (D * D) * (n * n))
+peak-over K c u A B D n h = from (K ∷ c ∷ u ∷ A ∷ B ∷ D ∷ n ∷ []) h (search read depth 40 fits 20000) refl
+
+-- three below the root, a part in 2 ^ 28 is far within 0.35 %
+peak-far : (K c u A B D m : ℕ) → 268435456 * (3 * ((m + 3) * (m + 3) * (D * 1 * 100 * 1000 * (D * 1 * 100 * 1000)))) ≤ 268435457 * (2 * norm (A * u * c * K) (B * u * c * K))
+    → 100000000 * (1000000 * (30000 * (D * D) * (m * m))) ≤ 2 * (c * u * (c * u) * norm A B) * (10035 * K * (10035 * K))
+peak-far K c u A B D m h = from-over (K ∷ c ∷ u ∷ A ∷ B ∷ D ∷ m ∷ []) 268435456 (lit< tt) (100000000 ⋆ h) (search read depth 40 fits 20000) refl
+
+-- K(i) is from 1,020 to 2,000
+peakFactor-sized : (i : ℕ) → (0 < peakFactor i) × (peakFactor i ≤ 2000)
+unfolding peakFactor
+peakFactor-sized i = go (ceiling (980 * tUnder 100) (tOver (3 * i) 100)) (ceiling-least (980 * tUnder 100) (tOver (3 * i) 100) 980 (tOver-pos (3 * i) 100 (lit< tt)) (mul-le-mul (le-refl 980) (t-least (3 * i) 100)))
+  where
+    go : (n : ℕ) → n ≤ 980 → (0 < 1020 + n) × (1020 + n ≤ 2000)
+    go n h = (omega arith, omega arith)
+
+pub record MachineFigures (c Un : ℕ) (P : Point) (y : Complex) : Type 0 where
+  pub bounds : Enclosed 1 3 (driven c Un P) (lowerOf 1 3 (currentBy c Un y)) (upperOf 1 3 (currentBy c Un y))
+  pub peak : PeakBound (machinePeakBy c Un y) (peakOver (squareOver c Un P) (P .re) (P .im)) (peakUnder (squareUnder P) (P .re) (P .im))
+  pub small : machinePeakBy c Un y < 2 ^ 53
+
+module _ (c Un k : ℕ) (P : Point) (y : Complex) (c₀ : 0 < c) (c₁ : c ≤ 110) (u : Volts Un) (few : k ≤ 900000) (h : NearTo value (Good 200 k) parts k P y) (B₀ : 0 < P .im)
+    (room : c * Un * (c * Un) * norm (P .re) (P .im) ≤ 2 ^ 100 * (10000 * (P .den * P .den))) where
+  current-near : NearTo value (Good 200 k) parts (k + 8 + 8) (driven c Un P) (currentBy c Un y)
+  unfolding currentBy
+  current-near = rules k few .near-scale (k + 8) c 100 _ _ (c₀, omega arith) (omega arith, omega arith) (omega arith) (rules k few .near-scale k Un 1 P y u (omega arith, omega arith) (omega arith) h)
+
+  -- the admittance is not nothing, since its imaginary part is not
+  sized : (unit ≤ size y * extent) × (size y ≤ unit * extent)
+  sized = ⊎-elim (λ e. absurd (gone e)) (λ x. x) (good-extent k k y (omega arith) (h .1))
+    where
+      gone : size y ≡ 0 → ⊥
+      gone e =
+          let n : P .re + P .im ≡ 0 = eqb-true (P .re + P .im) 0 (near-nothing parts k P (value y) (lit< tt) (omega arith) (h .0) ∙ eq-eqb (size y) 0 e) in
+          omega arith
+
+  index : Index (P .re) (P .im) (placeOf y)
+  index = place-index y k P (h .1 .fine) (sized .0) (sized .1) (omega arith) (h .0) B₀
+
+  at-index : min (placeOf y) 230 ≡ placeOf y
+  at-index = min-eq-left (index .cap)
+
+  peak-near : NearTo value (Good 200 k) parts (k + 8 + 8 + 8) (times (peakFactor (min (placeOf y) 230)) 1000 (driven c Un P)) (scaled (peakFactor (min (placeOf y) 230)) 1000 (currentBy c Un y))
+  peak-near =
+      let b = peakFactor-sized (min (placeOf y) 230) in
+      rules k few .near-scale (k + 8 + 8) _ 1000 _ _ (omega (arith, b .0), omega (arith, b .1)) (omega arith, omega arith) (omega arith) current-near
+
+  peak-encloses : Enclosed 2 3 (times (peakFactor (min (placeOf y) 230)) 1000 (driven c Un P)) (lowerOf 2 3 (scaled (peakFactor (min (placeOf y) 230)) 1000 (currentBy c Un y))) (machinePeakBy c Un y)
+  unfolding machinePeakBy
+  peak-encloses =
+      encloses _ (k + 8 + 8 + 8) _ 2 3 (peak-near .1 .fine) (good-extent k (k + 8 + 8 + 8) _ (omega arith) (peak-near .1)) (omega arith) (peak-near .0) (lit< tt) (lit< tt) (lit< tt) (lit< tt)
+      (peak-room (peakFactor (min (placeOf y) 230)) c Un (P .re) (P .im) (P .den) (peakFactor-sized (min (placeOf y) 230) .1) room)
+
+  pub machine-figures : MachineFigures c Un P y
+  machine-figures = record {
+    bounds =
+        encloses _ (k + 8 + 8) _ 1 3 (current-near .1 .fine) (good-extent k (k + 8 + 8) _ (omega arith) (current-near .1)) (omega arith) (current-near .0) (lit< tt) (lit< tt) (lit< tt) (lit< tt)
+        (current-room c Un (P .re) (P .im) (P .den) room);
+    peak =
+        peak-bound (squareOver c Un P) (squareUnder P) (P .re) (P .im) (placeOf y) (machinePeakBy c Un y) B₀ index
+        (rw at-index at (peak-over (peakFactor (min (placeOf y) 230)) c Un (P .re) (P .im) (P .den) (machinePeakBy c Un y) (peak-encloses .above)))
+        (λ m e. rw at-index at (peak-far (peakFactor (min (placeOf y) 230)) c Un (P .re) (P .im) (P .den) m (peak-encloses .near (m + 3) (omega arith))));
+    small = peak-encloses .small;
+  }
+
+-- ---- the converters' part, exact at P: the bounds of its size, and √2 times it
+pub record ConverterFigures (P : Point) (x : Complex) : Type 0 where
+  pub bounds : Enclosed 1 1 P (lowerOf 1 1 x) (upperOf 1 1 x)
+  pub peak : PeakBound (converterPeakBy x) (2 * norm (P .re) (P .im)) (P .den * P .den)
+  pub small : converterPeakBy x < 2 ^ 53
+
+pub converter-figures : (k : ℕ) (P : Point) (x : Complex) → k ≤ 1000000 → Near parts k P (value x) → Fine x → Extent (size x)
+    → norm (P .re) (P .im) ≤ 2 ^ 100 * (P .den * P .den) → ConverterFigures P x
+unfolding converterPeakBy
+converter-figures k P x few h f s room = record {
+  bounds = encloses x k P 1 1 f s few h (lit< tt) (lit< tt) (lit< tt) (lit< tt) (one (norm (P .re) (P .im)) (P .den * P .den) room);
+  peak = record {
+    no-lower = least (norm (P .re) (P .im)) (upperOf 2 1 x) (P .den) (e .above);
+    near = λ m d. far (norm (P .re) (P .im)) m (P .den) (e .near (m + 3) (omega arith));
+  };
+  small = e .small;
+}
+  where
+    one : (n d : ℕ) → n ≤ 2 ^ 100 * d → 1 * n ≤ 1 * (2 ^ 104 * d)
+    one n d h = omega arith
+
+    two : (n d : ℕ) → n ≤ 2 ^ 100 * d → 2 * n ≤ 1 * (2 ^ 104 * d)
+    two n d h = omega arith
+
+    e : Enclosed 2 1 P (lowerOf 2 1 x) (upperOf 2 1 x)
+    e = encloses x k P 2 1 f s few h (lit< tt) (lit< tt) (lit< tt) (lit< tt) (two (norm (P .re) (P .im)) (P .den * P .den) room)
+
+    least : (n u d : ℕ) → 2 * n ≤ 1 * (u * u * (d * d)) → 2 * n ≤ u * u * (d * d)
+    least n u d h = omega arith
+
+    far : (n m d : ℕ) → 268435456 * (1 * ((m + 3) * (m + 3) * (d * d))) ≤ 268435457 * (2 * n) → 10000 * (m * m) * (d * d) ≤ 10404 * (2 * n)
+    far n m d h = from-over (n ∷ m ∷ d ∷ []) 268435456 (lit< tt) (10000 ⋆ h) (search read depth 40 fits 20000) refl
