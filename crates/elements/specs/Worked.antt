@@ -9,7 +9,7 @@ use Rattle.enclosure.specs.Root.{rootOf, rootUp}
 use Rattle.elements.specs.Factors.{factorC, sineOf, uxOf, splitOf}
 use Rattle.elements.specs.Exponential.{tOver, tUnder, over, under}
 use Rattle.elements.specs.PeakTable.{peakFactor, ceiling}
-use Rattle.elements.specs.Peak.{PeakBound, Index, crest, peakOver, peakUnder, peak-bound}
+use Rattle.elements.specs.Peak.{PeakBound, crest, peakOver, peakUnder, peak-bound}
 use Rattle.elements.specs.Impedance.{line, transformer, split, feeder, generator, converter}
 
 pub record Starred : Type 0 where
