@@ -1,7 +1,7 @@
--- Document 01, "Factors": c, the sine, ux and f, as definitions on all numbers, and the laws that say they are what it says.
+-- Document 01, "Factors": c, the sine, ux and f, defined on all numbers, with the laws by which document 01 describes them.
 -- Assumes nothing.
 use Prim.Native.Nat.{ℕ, _+_, _-_, _*_, _/_, _≤_, _<_}
-use mathlib.Core.Path.{_≡_, refl}
+use mathlib.Core.Path.{_≡_}
 use native.Mathlib.Omega.{arith}
 use native.Mathlib.Nat.{le-trans, mul-le-mul, mul-le-mul-right, div-mul-le-self, le-div-iff-mul-le}
 use lib.Dec.{leb, eqb}
@@ -77,6 +77,15 @@ split-greatest ρ f h = root-greatest (10000000000000000 / (10000 + ρ * ρ)) f 
 pub split-most : (ρ : ℕ) → splitOf ρ ≤ 1000000
 split-most ρ = root-le (splitOf ρ) 1000000 (omega (arith, split-fits ρ))
 
--- ---- the square of a number of 32 bits
-pub square-most : (x : ℕ) → x < 4294967296 → x * x ≤ 4294967295 * 4294967295
-square-most x h = let l : x ≤ 4294967295 = omega arith in mul-le-mul l l
+-- ---- for the code: the product of two numbers of 32 bits, and the root of a number of 64
+pub product-most : {a b : ℕ} → a < 4294967296 → b < 4294967296 → a * b ≤ 4294967295 * 4294967295
+product-most {a} {b} h k =
+    let l : a ≤ 4294967295 = omega arith in
+    let m : b ≤ 4294967295 = omega arith in
+    mul-le-mul l m
+
+pub root-fits : {x r : ℕ} → r ≡ rootOf x → x < 18446744073709551616 → r < 4294967296
+root-fits {x} {r} e h = rw e (root-below x 4294967296 h)
+
+pub rootUp-fits : {x r : ℕ} → r ≡ rootUp x → x ≤ 4294967295 * 4294967295 → r < 4294967296
+rootUp-fits {x} {r} e h = omega (arith, rootUp-least x 4294967295 h)

@@ -1,15 +1,15 @@
 -- Document 01, "Factors": the peak table. Its rule is proved once over the whole table, by a test that is computed; and
 -- so is how far each K(i) lies above 1.02 + 0.98/T. Assumes nothing.
 use Prim.Native.Nat.{ℕ, zero, suc, _+_, _*_, _/_, _≤_, _<_}
-use mathlib.Core.Path.{_≡_, refl, subst, sym}
-use mathlib.Core.Bool.{Bool, true, false}
+use mathlib.Core.Path.{_≡_}
+use mathlib.Core.Bool.{Bool}
 use mathlib.Core.List.{List, [], _∷_}
-use mathlib.Core.Logic.{⊎-elim}
 use native.Mathlib.Omega.{arith}
-use native.Mathlib.Nat.{div-lt-iff-lt-mul, lt-div-mul-add, le-of-suc-le-suc, eq-or-lt-of-le, not-suc-le-zero}
-use lib.Dec.{T, eqb, eqb→eq, leb, leb→le, lit≤}
+use native.Mathlib.Nat.{div-lt-iff-lt-mul, lt-div-mul-add, le-of-suc-le-suc}
+use lib.Dec.{eqb, eqb→eq, leb, leb→le, lit≤}
 use lib.ListN.{getD}
 use Rattle.elements.specs.Exponential.{tOver, tUnder, over, under}
+use Rattle.elements.specs.Below.{below}
 
 -- the least whole number not below a/b
 unfoldable pub ceiling : ℕ → ℕ → ℕ
@@ -30,6 +30,7 @@ ceiling-least a (suc c) k h l = le-of-suc-le-suc (div-lt-iff-lt-mul {k = suc c} 
 unfoldable pub peakFactor : ℕ → ℕ
 peakFactor i = 1020 + ceiling (980 * tUnder 100) (tOver (3 * i) 100)
 
+-- the table
 abbrev pub peaks : List ℕ
 peaks =
     2000 ∷ 1972 ∷ 1943 ∷ 1916 ∷ 1890 ∷ 1864 ∷ 1839 ∷ 1815 ∷ 1791 ∷ 1769 ∷ 1747 ∷ 1725 ∷ 1704 ∷ 1684 ∷ 1664 ∷ 1645 ∷ 1627 ∷ 1609 ∷ 1592 ∷ 1575 ∷ 1558 ∷
@@ -44,19 +45,7 @@ peaks =
     1024 ∷ 1024 ∷ 1024 ∷ 1024 ∷ 1023 ∷ 1023 ∷ 1023 ∷ 1023 ∷ 1023 ∷ 1023 ∷ 1023 ∷ 1023 ∷ 1023 ∷ 1023 ∷ 1023 ∷ 1023 ∷ 1023 ∷ 1023 ∷ 1022 ∷ 1022 ∷ 1022 ∷
     1022 ∷ 1022 ∷ 1022 ∷ 1022 ∷ 1022 ∷ 1022 ∷ 1022 ∷ 1022 ∷ 1022 ∷ 1022 ∷ 1022 ∷ 1022 ∷ 1022 ∷ 1022 ∷ 1022 ∷ 1022 ∷ 1022 ∷ 1022 ∷ 1022 ∷ 1022 ∷ 1021 ∷ []
 
--- ---- a test that passes at each number below n, as one computed Bool
-abbrev all : (ℕ → Bool) → ℕ → Bool
-all f zero = true
-all f (suc n) = elim (f n) [ true ↦ all f n | false ↦ false ]
-
-below : (f : ℕ → Bool) (n : ℕ) → T (all f n) → (k : ℕ) → k < n → T (f k)
-below f zero t k h = absurd (not-suc-le-zero h)
-below f (suc n) t k h = on (f n) (all f n) t (⊎-elim (λ (e : k ≡ n). λ a b. subst (λ (m : ℕ). T (f m)) (sym e) a) (λ (l : k < n). λ a b. below f n b k l) (eq-or-lt-of-le (le-of-suc-le-suc h)))
-  where
-    on : (a b : Bool) → T (elim a [ true ↦ b | false ↦ false ]) → (T a → T b → T (f k)) → T (f k)
-    on true b t r = r tt t
-    on false b t r = absurd t
-
+-- ---- the rule
 right : ℕ → Bool
 unfolding peakFactor ceiling tOver tUnder over under
 right i = eqb (getD peaks i 0) (peakFactor i)

@@ -1,13 +1,15 @@
--- Document 01, "Worked points": the starred points of the factors, as one table; and the impedances behind two others.
+-- Document 01, "Worked points": the starred points of the factors, as one table; the impedances behind two others; a peak.
 -- Assumes nothing.
 use Prim.Native.Nat.{ℕ, _+_, _*_, _≤_, _<_}
 use mathlib.Core.Path.{_≡_, refl}
+use native.Mathlib.Omega.{arith}
 use lib.Dec.{lit<, lit≤}
 use Rattle.enclosure.specs.Point.{Point, sum, times}
 use Rattle.enclosure.specs.Root.{rootOf, rootUp}
 use Rattle.elements.specs.Factors.{factorC, sineOf, uxOf, splitOf}
 use Rattle.elements.specs.Exponential.{tOver, tUnder, over, under}
 use Rattle.elements.specs.PeakTable.{peakFactor, ceiling}
+use Rattle.elements.specs.Peak.{PeakBound, crest, peakOver, peakUnder, peak-bound}
 use Rattle.elements.specs.Impedance.{line, transformer, split, feeder, generator, converter}
 
 pub record Starred : Type 0 where
@@ -69,3 +71,40 @@ unit = sum (times (20000 * 20000) (690 * 690) (generator 10 690 690 950 18000 15
 pub unit-near : (1563 * unit .den ≤ 100 * unit .re) × (100 * unit .re < 1564 * unit .den) × (10118 * unit .den ≤ 100 * unit .im) × (100 * unit .im < 10119 * unit .den)
 unfolding generator transformer factorC sineOf uxOf rootOf rootUp
 unit-near = (lit≤ tt, lit< tt, lit≤ tt, lit< tt)
+
+-- "Feeder 500,000 kVA, ρ 10, 20,000 V, alone: I between 14,433 and 14,434; peak 35,641 to 36,356." I² is P/Q, (c·Un)²/(3·(R² + X²))
+abbrev alone : Point
+alone = feeder 6 20000 500000 10
+
+abbrev P : ℕ
+P = 110 * 20000 * (110 * 20000) * (alone .den * alone .den)
+
+abbrev Q : ℕ
+Q = 30000 * (alone .re * alone .re + alone .im * alone .im)
+
+abbrev Peak : ℕ → Type 0
+Peak n = PeakBound n (peakOver P (alone .re) (alone .im)) (peakUnder Q (alone .re) (alone .im))
+
+pub alone-current : (14433 * 14433 * Q ≤ P) × (P ≤ 14434 * 14434 * Q)
+unfolding feeder split factorC splitOf rootOf
+alone-current = (lit≤ tt, lit≤ tt)
+
+-- both ends are peaks, and their neighbours outside are none
+pub alone-peaks : Peak 35641 × (Peak 35640 → ⊥) × Peak 36356 × (Peak 36357 → ⊥)
+unfolding feeder split factorC splitOf rootOf crest peakOver peakUnder tOver tUnder over under
+alone-peaks = (
+  record { no-lower = lit≤ tt; near = λ m e. let q : m ≡ 35637 = omega arith in rw q (lit≤ tt) },
+  λ b. not-le (b .no-lower) (lit< tt),
+  record { no-lower = lit≤ tt; near = λ m e. let q : m ≡ 36352 = omega arith in rw q (lit≤ tt) },
+  λ b. not-le (b .near 36353 refl) (lit< tt),
+)
+  where
+    not-le : {a b : ℕ} → a ≤ b → b < a → ⊥
+    not-le h l = omega arith
+
+-- the law gives one of them: K(10)/1,000·√2·I, rounded up
+pub alone-peak : Peak 35661
+unfolding feeder split factorC splitOf rootOf peakFactor ceiling tOver tUnder over under
+alone-peak =
+    peak-bound P Q (alone .re) (alone .im) 10 35661 (lit< tt) (record { below = lit≤ tt; cap = lit≤ tt; above = λ l. lit< tt })
+    (lit≤ tt) (λ m e. let q : m ≡ 35657 = omega arith in rw q (lit≤ tt))

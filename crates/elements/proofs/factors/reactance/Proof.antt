@@ -1,10 +1,11 @@
--- `elements::factors::reactance` meets its contract. The square of a number of 32 bits fits 64.
+-- `elements::factors::reactance` meets its contract. The product of two numbers of 32 bits fits 64.
 -- Assumes nothing.
 use mathlib.Core.Path.{sym}
 use native.Mathlib.Omega.{arith}
-use native.Mathlib.Nat.{mul-le-mul, le-of-lt}
+use native.Mathlib.Nat.{mul-le-mul, lt-of-le-of-lt}
+use lib.Dec.{lit<}
 use borrow.Author.Needs.{needs}
-use Rattle.elements.specs.Factors.{uxOf, ux-most, ux-none, square-most}
+use Rattle.elements.specs.Factors.{uxOf, ux-none, product-most, root-fits}
 use Rattle.elements.proofs.factors.reactance.Statement.{statement}
 use Rattle.elements.proofs.factors.reactance.Tie as tie
 
@@ -12,20 +13,20 @@ returns : tie.Need-returns
 returns c = sym (ux-none (c .before .args .uk) (c .before .args .ur) (c .if1 .taken))
 
 mul-root : tie.Need-mul-root
-mul-root c = record { fits = omega (arith, square-most (c .before .args .uk) (c .before .fits .uk .fits)) }
+mul-root c = record { fits = lt-of-le-of-lt (product-most (search needs) (search needs)) (lit< tt) }
 
 mul-root-2 : tie.Need-mul-root-2
-mul-root-2 c = record { fits = omega (arith, square-most (c .before .args .ur) (c .before .fits .ur .fits)) }
+mul-root-2 c = record { fits = lt-of-le-of-lt (product-most (search needs) (search needs)) (lit< tt) }
 
 sub-root : tie.Need-sub-root
-sub-root c = mul-le-mul (le-of-lt (c .if1 .left)) (le-of-lt (c .if1 .left))
+sub-root c = mul-le-mul (search needs) (search needs)
 
 root-requires : tie.Need-root-requires
 root-requires c κs = search needs
 
 cast-result : tie.Need-cast-result
-unfolding uxOf
-cast-result c = record { fits = omega (arith, c .root .ensures, ux-most (c .before .before .args .uk) (c .before .before .args .ur)) }
+cast-result c =
+    record { fits = root-fits (c .root .ensures) (omega (arith, product-most (c .before .before .fits .uk .fits) (c .before .before .fits .uk .fits))) }
 
 returns-2 : tie.Need-returns-2
 unfolding uxOf

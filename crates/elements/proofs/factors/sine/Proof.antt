@@ -3,7 +3,7 @@
 use native.Mathlib.Omega.{arith}
 use native.Mathlib.Nat.{mul-le-mul}
 use borrow.Author.Needs.{needs}
-use Rattle.elements.specs.Factors.{sineOf, sine-least, sine-most}
+use Rattle.elements.specs.Factors.{sineOf, sine-least, rootUp-fits}
 use Rattle.elements.proofs.factors.sine.Statement.{statement}
 use Rattle.elements.proofs.factors.sine.Tie as tie
 
@@ -23,8 +23,7 @@ root-up-requires : tie.Need-root-up-requires
 root-up-requires c κs = search needs
 
 cast-result : tie.Need-cast-result
-unfolding sineOf
-cast-result c = record { fits = omega (arith, c .root-up .ensures, sine-most (c .before .before .args .p)) }
+cast-result c = record { fits = rootUp-fits (c .root-up .ensures) (omega arith) }
 
 returns-2 : tie.Need-returns-2
 unfolding sineOf
