@@ -1,3 +1,11 @@
 pub mod Walk
 pub mod Depth
 pub mod Grid
+pub mod Sums
+pub mod Inside
+pub mod Bound
+pub mod Fed
+pub mod Through
+pub mod Held
+pub mod Sound
+pub mod Seen

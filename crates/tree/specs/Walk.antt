@@ -8,7 +8,7 @@ use mathlib.Core.Logic.{_⊎_, inl, inr, ⊎-elim}
 use native.Mathlib.Omega.{arith}
 use native.Mathlib.Numerals.{add-one}
 use lib.Dec.{ltb, eqb}
-use borrow.Author.Tests.{ltb-true, ltb-false, eqb-true, eqb-false}
+use borrow.Author.Tests.{ltb-true, ltb-false, lt-ltb, eqb-true, eqb-false, eq-eqb, ne-eqb}
 use Rattle.enclosure.specs.Point.{pick}
 
 -- ---- neighbours: p gives the parent of each bus but bus 0, a bus with a smaller number
@@ -59,6 +59,11 @@ near-joined p b w i h = go (eqb i w) refl h
     go : (s : Bool) → eqb i w ≡ s → pick s false (joined p b i) ≡ true → (joined p b i ≡ true) × (i ≡ w → ⊥)
     go true e h = let z : _≡_ {A = ℕ} 0 1 = cc in absurd (omega arith)
     go false e h = (h, eqb-false i w e)
+
+-- a bus is joined to its parent
+pub near-parent : (p : ℕ → ℕ) (b w : ℕ) → p b < b → (p b ≡ w → ⊥) → near p b w (p b) ≡ true
+unfolding near joined
+near-parent p b w l h = rw (ne-eqb (p b) w h, lt-ltb (p b) b l) (eq-eqb (p b) (p b) refl)
 
 -- a neighbour by two lists of parents that agree
 near-same : (p p′ : ℕ → ℕ) (b w i : ℕ) → p b ≡ p′ b → p i ≡ p′ i → near p b w i ≡ near p′ b w i
