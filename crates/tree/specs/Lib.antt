@@ -9,3 +9,8 @@ pub mod Through
 pub mod Held
 pub mod Sound
 pub mod Seen
+pub mod Converters
+pub mod Equal
+pub mod Total
+pub mod Rooted
+pub mod Currents

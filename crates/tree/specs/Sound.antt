@@ -47,6 +47,12 @@ pub record Plain (G : Grid) : Type 0 where
   pub branch : (i : ℕ) → 0 < i → i < G .count → Impedance (G .branch i .z)
   pub own : (b : ℕ) → b < G .count → Admittance (G .own b)
 
+-- each bus's current, if it has one, is at least 2 ^ -20 A, and its product with the nominal volts at most 2 ^ 57
+pub record Amperes (G : Grid) (U : ℕ → ℕ) : Type 0 where
+  pub proper : (i : ℕ) → i < G .count → 0 < G .current i .den
+  pub least : (i : ℕ) → i < G .count → Low (2 ^ 20) (G .current i)
+  pub most : (i : ℕ) → i < G .count → (G .current i .re + G .current i .im) * U i ≤ 2 ^ 57 * G .current i .den
+
 pub sound-proper : (G : Grid) → Sound G → Plain G → Proper G
 sound-proper G s p = record {
   own = λ b l. p .own b l .proper;
