@@ -10,10 +10,10 @@ use native.Mathlib.Nat.{mul-suc}
 use lib.Dec.{ltb}
 use borrow.Author.Tests.{eqb-false}
 use Rattle.algebra.specs.Polynomial.{two-sq}
-use Rattle.algebra.specs.Reading.{from, from-over, read, _⊹_, _⋆_}
+use Rattle.algebra.specs.Reading.{from, read, _⊹_, _⋆_}
 use Rattle.enclosure.specs.Point.{pick, Point, nothing, isNothing, sum, turned, inverse, exact}
-use Rattle.tree.specs.Walk.{joined, near, near-joined, over, walk}
-use Rattle.tree.specs.Grid.{Grid, parentOf, square, through, admittances, seenBy, seen}
+use Rattle.tree.specs.Walk.{joined, near, near-joined, over}
+use Rattle.tree.specs.Grid.{Grid, parentOf, square, through, through-cases, seenBy, seen}
 
 -- re + im is at most P/Q
 abbrev pub AtMost : ℕ → ℕ → Point → Type 0
@@ -91,18 +91,9 @@ referred G b i = pick (ltb i b) (G .branch b .z) (square exact (G .branch i .abo
 
 -- |1/(Z + 1/Y)| ≤ 1/|Z|, whatever lies behind the branch
 pub through-most : (Q P : ℕ) (G : Grid) (b i : ℕ) (y : Point) → AtLeast Q P (referred G b i) → AtMost Q P (through exact (λ j. G .branch j .z) G b i y)
-unfolding through
-through-most Q P G b i y h = go (isNothing y) (ltb i b) h
-  where
-    go : (e d : Bool) → AtLeast Q P (pick d (G .branch b .z) (square exact (G .branch i .above) (G .branch i .below) (G .branch i .z)))
-        → AtMost Q P
-        (pick e nothing
-        (pick d
-        (inverse (sum (G .branch b .z) (square exact (G .branch b .below) (G .branch b .above) (inverse y))))
-        (inverse (square exact (G .branch i .above) (G .branch i .below) (sum (G .branch i .z) (inverse y))))))
-    go true d g = omega arith
-    go false true g = most-inverse Q P _ (least-sum Q P _ _ g)
-    go false false g = most-inverse Q P _ (least-square Q P _ _ _ _ g)
+through-most Q P G b i y h =
+    through-cases exact (λ j. G .branch j .z) G b i y (AtMost Q P)
+    (λ e. omega arith) (λ e d. most-inverse Q P _ (least-sum Q P _ _ (rw d at h))) (λ e d. most-inverse Q P _ (least-square Q P _ _ _ _ (rw d at h)))
 
 over-most : (Q P : ℕ) (joins : ℕ → Bool) (f : ℕ → Point) (x : Point) (k m : ℕ) → AtMost Q k x → ((i : ℕ) → i < m → joins i ≡ true → AtMost Q P (f i))
     → AtMost Q (k + P * m) (over sum joins f x m)

@@ -1,17 +1,16 @@
 -- The converters' part at a bus (document 01, "Seen impedance").
 -- Assumes nothing.
 use Prim.Native.Nat.{ℕ, zero, suc, _+_, _*_, _≤_, _<_}
-use mathlib.Core.Path.{_≡_, refl, sym, _∙_, ap, ap₂}
+use mathlib.Core.Path.{_≡_, refl, _∙_, ap, ap₂}
 use mathlib.Core.Bool.{Bool, true, false}
 use mathlib.Core.Logic.{_⊎_, inl, inr, ⊎-elim}
 use native.Mathlib.Omega.{arith}
 use native.Mathlib.Nat.{le-refl}
 use native.Mathlib.Numerals.{add-one}
 use lib.Dec.{ltb}
-use borrow.Author.Tests.{ltb-true, lt-ltb, le-ltb}
 use Rattle.enclosure.specs.Point.{pick, Point, Ops, exact, sum}
-use Rattle.tree.specs.Walk.{joined, Gather, walk, walk-related}
-use Rattle.tree.specs.Depth.{depth, depth-more, depth-root}
+use Rattle.tree.specs.Walk.{near, over, Gather, walk, walk-related, walk-equation, only-walk, by-number}
+use Rattle.tree.specs.Toward.{toward, toward-more, toward-end, toward-same, depth, depth-more, depth-end}
 use Rattle.tree.specs.Grid.{Grid, parentOf, Treelike, Shaped}
 
 -- "each multiplied at a crossing by rated volts left over rated volts arrived at": a current at i, carried to its neighbour b, its child
@@ -19,29 +18,49 @@ use Rattle.tree.specs.Grid.{Grid, parentOf, Treelike, Shaped}
 unfoldable pub across : {A : Type 0} → Ops A → Grid → ℕ → ℕ → A → A
 across o G b i x = pick (ltb i b) (o .scale (G .branch b .above) (G .branch b .below) x) (o .scale (G .branch i .below) (G .branch i .above) x)
 
+pub across-cases : {A : Type 0} (o : Ops A) (G : Grid) (b i : ℕ) (x : A) (P : A → Type 0)
+    → (ltb i b ≡ true → P (o .scale (G .branch b .above) (G .branch b .below) x)) → (ltb i b ≡ false → P (o .scale (G .branch i .below) (G .branch i .above) x))
+    → P (across o G b i x)
+unfolding across
+across-cases o G b i x P parent child = go (ltb i b) refl
+  where
+    go : (d : Bool) → ltb i b ≡ d → P (pick d (o .scale (G .branch b .above) (G .branch b .below) x) (o .scale (G .branch i .below) (G .branch i .above) x))
+    go true q = parent q
+    go false q = child q
+
 abbrev pub currents : {A : Type 0} → Ops A → (ℕ → A) → Grid → Gather A
 currents o c G = record { own = c; add = o .add; through = across o G }
 
--- DEFINITION: the converters' part at b, "the sum of rated current·k", by the walk that gathers what is seen
-unfoldable pub carried : Grid → ℕ → Point
-carried G b = walk (currents exact (G .current) G) (parentOf G) (G .count) (2 * G .count + 1) b b
+-- what is gathered at b without w; w = b stands for none
+unfoldable pub carriedWithout : Grid → ℕ → ℕ → Point
+carriedWithout G = walk (currents exact (G .current) G) (parentOf G) (G .count) (2 * G .count + 1)
 
--- ---- the same by recursion towards bus 0, "bus number falling"
-abbrev pub rise : {A : Type 0} → Ops A → Grid → ℕ → ℕ → A → A
-rise o G zero b x = x
-rise o G (suc f) b x = pick (ltb (parentOf G b) b) (rise o G f (parentOf G b) (o .scale (G .branch b .below) (G .branch b .above) x)) x
+-- DEFINITION: the converters' part at b, "the sum of rated current·k", gathered as what is seen is
+abbrev pub carried : Grid → ℕ → Point
+carried G b = carriedWithout G b b
 
-abbrev pub fall : {A : Type 0} → Ops A → Grid → ℕ → ℕ → A → A
-fall o G zero b x = x
-fall o G (suc f) b x = pick (ltb (parentOf G b) b) (o .scale (G .branch b .above) (G .branch b .below) (fall o G f (parentOf G b) x)) x
+-- ---- THE SENTENCE of document 01, which knows no fuel; what is gathered satisfies it, and nothing else does
+abbrev pub Sentence : Grid → (ℕ → ℕ → Point) → Type 0
+Sentence G S = (b w : ℕ) → b < G .count → S b w ≡ over sum (near (parentOf G) b w) (λ i. across exact G b i (S i b)) (G .current b) (G .count)
 
+pub carried-sentence : (G : Grid) → Treelike G → Sentence G (carriedWithout G)
+unfolding carriedWithout
+carried-sentence G t b w l =
+    walk-equation (currents exact (G .current) G) (parentOf G) (G .count) (G .count) (λ i. i) (by-number (parentOf G) (G .count) t) (2 * G .count + 1) b w l (omega arith)
+
+pub sentence-carried : (G : Grid) → Treelike G → (S : ℕ → ℕ → Point) → Sentence G S → (b w : ℕ) → b < G .count → S b w ≡ carriedWithout G b w
+unfolding carriedWithout
+sentence-carried G t S q b w l =
+    only-walk (currents exact (G .current) G) (parentOf G) (G .count) (G .count) (λ i. i) (by-number (parentOf G) (G .count) t) S q (2 * G .count + 1) b w l (omega arith)
+
+-- ---- the same by "recursion from a bus towards bus 0 for depth and rated ratios, bus number falling"
 -- a current x at b, carried to bus 0
 unfoldable pub toRoot : {A : Type 0} → Ops A → Grid → ℕ → A → A
-toRoot o G b x = rise o G b b x
+toRoot o G b = toward (parentOf G) (λ i carry x. carry (o .scale (G .branch i .below) (G .branch i .above) x)) (λ x. x) b b
 
 -- a current x at bus 0, carried to b
 unfoldable pub fromRoot : {A : Type 0} → Ops A → Grid → ℕ → A → A
-fromRoot o G b x = fall o G b b x
+fromRoot o G b x = toward (parentOf G) (λ i y. o .scale (G .branch i .above) (G .branch i .below) y) x b b
 
 -- the currents of the buses below n, each carried to bus 0
 abbrev pub gathered : {A : Type 0} → Ops A → (ℕ → A) → Grid → ℕ → A
@@ -53,60 +72,47 @@ abbrev pub carriedBy : {A : Type 0} → Ops A → (ℕ → A) → Grid → ℕ �
 carriedBy o c G b = fromRoot o G b (gathered o c G (G .count))
 
 -- ---- for code: the cases of the recursions, and one more bus in a loop
-rise-same : {A : Type 0} (o : Ops A) (G : Grid) (f g b : ℕ) (x : A) → b ≤ f → b ≤ g → rise o G f b x ≡ rise o G g b x
-rise-same o G zero zero b x l m = refl
-rise-same o G zero (suc g) b x l m = rw (le-ltb (parentOf G b) b (omega arith))
-rise-same o G (suc f) zero b x l m = rw (le-ltb (parentOf G b) b (omega arith))
-rise-same {A} o G (suc f) (suc g) b x l m = go (ltb (parentOf G b) b) refl (λ h. rise-same o G f g (parentOf G b) y (omega arith) (omega arith))
-  where
-    y : A
-    y = o .scale (G .branch b .below) (G .branch b .above) x
-
-    go : (t : Bool) → ltb (parentOf G b) b ≡ t → (parentOf G b < b → rise o G f (parentOf G b) y ≡ rise o G g (parentOf G b) y)
-        → pick t (rise o G f (parentOf G b) y) x ≡ pick t (rise o G g (parentOf G b) y) x
-    go true e r = r (ltb-true (parentOf G b) b e)
-    go false e r = refl
-
-fall-same : {A : Type 0} (o : Ops A) (G : Grid) (f g b : ℕ) (x : A) → b ≤ f → b ≤ g → fall o G f b x ≡ fall o G g b x
-fall-same o G zero zero b x l m = refl
-fall-same o G zero (suc g) b x l m = rw (le-ltb (parentOf G b) b (omega arith))
-fall-same o G (suc f) zero b x l m = rw (le-ltb (parentOf G b) b (omega arith))
-fall-same {A} o G (suc f) (suc g) b x l m = go (ltb (parentOf G b) b) refl (λ h. fall-same o G f g (parentOf G b) x (omega arith) (omega arith))
-  where
-    y : A → A
-    y = o .scale (G .branch b .above) (G .branch b .below)
-
-    go : (t : Bool) → ltb (parentOf G b) b ≡ t → (parentOf G b < b → fall o G f (parentOf G b) x ≡ fall o G g (parentOf G b) x)
-        → pick t (y (fall o G f (parentOf G b) x)) x ≡ pick t (y (fall o G g (parentOf G b) x)) x
-    go true e r = ap y (r (ltb-true (parentOf G b) b e))
-    go false e r = refl
-
 pub toRoot-more : {A : Type 0} (o : Ops A) (G : Grid) (b : ℕ) (x : A) → parentOf G b < b
     → toRoot o G b x ≡ toRoot o G (parentOf G b) (o .scale (G .branch b .below) (G .branch b .above) x)
 unfolding toRoot
-toRoot-more o G zero x h = absurd (omega arith)
-toRoot-more o G (suc b) x h = rw (lt-ltb (parentOf G (suc b)) (suc b) h) (rise-same o G b (parentOf G (suc b)) (parentOf G (suc b)) _ (omega arith) (omega arith))
+toRoot-more {A} o G b x h = ap (λ (f : A → A). f x) (toward-more (parentOf G) (λ i carry y. carry (o .scale (G .branch i .below) (G .branch i .above) y)) (λ y. y) b h)
 
 pub toRoot-end : {A : Type 0} (o : Ops A) (G : Grid) (b : ℕ) (x : A) → b ≤ parentOf G b → toRoot o G b x ≡ x
 unfolding toRoot
-toRoot-end o G zero x h = refl
-toRoot-end o G (suc b) x h = rw (le-ltb (parentOf G (suc b)) (suc b) h)
+toRoot-end {A} o G b x h = ap (λ (f : A → A). f x) (toward-end (parentOf G) (λ i carry y. carry (o .scale (G .branch i .below) (G .branch i .above) y)) (λ y. y) b h)
 
 pub fromRoot-more : {A : Type 0} (o : Ops A) (G : Grid) (b : ℕ) (x : A) → parentOf G b < b
     → fromRoot o G b x ≡ o .scale (G .branch b .above) (G .branch b .below) (fromRoot o G (parentOf G b) x)
 unfolding fromRoot
-fromRoot-more o G zero x h = absurd (omega arith)
-fromRoot-more o G (suc b) x h =
-    rw (lt-ltb (parentOf G (suc b)) (suc b) h)
-    (ap (o .scale (G .branch (suc b) .above) (G .branch (suc b) .below)) (fall-same o G b (parentOf G (suc b)) (parentOf G (suc b)) x (omega arith) (omega arith)))
+fromRoot-more o G b x h = toward-more (parentOf G) (λ i y. o .scale (G .branch i .above) (G .branch i .below) y) x b h
 
 pub fromRoot-end : {A : Type 0} (o : Ops A) (G : Grid) (b : ℕ) (x : A) → b ≤ parentOf G b → fromRoot o G b x ≡ x
 unfolding fromRoot
-fromRoot-end o G zero x h = refl
-fromRoot-end o G (suc b) x h = rw (le-ltb (parentOf G (suc b)) (suc b) h)
+fromRoot-end o G b x h = toward-end (parentOf G) (λ i y. o .scale (G .branch i .above) (G .branch i .below) y) x b h
 
 pub gathered-more : {A : Type 0} (o : Ops A) (c : ℕ → A) (G : Grid) (i : ℕ) → gathered o c G (i + 1) ≡ o .add (gathered o c G i) (toRoot o G i (c i))
 gathered-more o c G i = rw add-one
+
+-- ---- it depends on nothing but the tree, the rated volts and the buses' currents
+pub carried-same : {A : Type 0} (o : Ops A) (c c′ : ℕ → A) (G H : Grid) → Shaped G H → ((i : ℕ) → i < G .count → c i ≡ c′ i)
+    → (b : ℕ) → b < G .count → carriedBy o c G b ≡ carriedBy o c′ H b
+unfolding toRoot fromRoot
+carried-same {A} o c c′ G H s h b l = from-same b (gathered o c G (G .count)) l ∙ ap (fromRoot o H b) (all (G .count) (le-refl (G .count)) ∙ ap (gathered o c′ H) (s .count))
+  where
+    to-same : (i : ℕ) (x : A) → i < G .count → toRoot o G i x ≡ toRoot o H i x
+    to-same i x l =
+        ap (λ (f : A → A). f x)
+        (toward-same (parentOf G) (parentOf H) (λ j carry y. carry (o .scale (G .branch j .below) (G .branch j .above) y)) (λ j carry y. carry (o .scale (H .branch j .below) (H .branch j .above) y)) (λ y. y) (G .count) (s .parent)
+        (λ j k z m. ap₂ {C = A → A} (λ (p q : ℕ) y. k (o .scale p q y)) (s .below j z m) (s .above j z m)) i i l)
+
+    from-same : (i : ℕ) (x : A) → i < G .count → fromRoot o G i x ≡ fromRoot o H i x
+    from-same i x l =
+        toward-same (parentOf G) (parentOf H) (λ j y. o .scale (G .branch j .above) (G .branch j .below) y) (λ j y. o .scale (H .branch j .above) (H .branch j .below) y) x (G .count) (s .parent)
+        (λ j y z m. ap₂ (λ (p q : ℕ). o .scale p q y) (s .above j z m) (s .below j z m)) i i l
+
+    all : (n : ℕ) → n ≤ G .count → gathered o c G n ≡ gathered o c′ H n
+    all zero m = refl
+    all (suc n) m = ap₂ (o .add) (all n (omega arith)) (to-same n (c n) m ∙ ap (toRoot o H n) (h n m))
 
 zero-or : (n : ℕ) → (n ≡ 0) ⊎ (0 < n)
 zero-or zero = inl refl
@@ -120,7 +126,7 @@ module _ {A B : Type 0} (o : Ops A) (o′ : Ops B) (G : Grid) (tree : Treelike G
     → R (suc d) b (o .scale (G .branch b .above) (G .branch b .below) x) (o′ .scale (G .branch b .above) (G .branch b .below) y)) where
   up-end : (b d e : ℕ) (x : A) (y : B) → b ≡ 0 → d + depth (parentOf G) b ≡ e → R d b x y → R e 0 (toRoot o G b x) (toRoot o′ G b y)
   up-end b d e x y z q h =
-      let g : d ≡ e = omega (arith, depth-root (parentOf G) b (omega arith)) in
+      let g : d ≡ e = omega (arith, depth-end (parentOf G) b (omega arith)) in
       rw (toRoot-end o G b x (omega arith), toRoot-end o′ G b y (omega arith)) (rw (g, z) at h)
 
   up : (n b d e : ℕ) (x : A) (y : B) → b ≤ n → b < G .count → d + depth (parentOf G) b ≡ e → e ≤ D → R d b x y → R e 0 (toRoot o G b x) (toRoot o′ G b y)
@@ -138,7 +144,7 @@ module _ {A B : Type 0} (o : Ops A) (o′ : Ops B) (G : Grid) (tree : Treelike G
 
   down-end : (b d e : ℕ) (x : A) (y : B) → b ≡ 0 → d + depth (parentOf G) b ≡ e → R d 0 x y → R e b (fromRoot o G b x) (fromRoot o′ G b y)
   down-end b d e x y z q h =
-      let g : d ≡ e = omega (arith, depth-root (parentOf G) b (omega arith)) in
+      let g : d ≡ e = omega (arith, depth-end (parentOf G) b (omega arith)) in
       rw (fromRoot-end o G b x (omega arith), fromRoot-end o′ G b y (omega arith), z) (rw g at h)
 
   down : (n b d e : ℕ) (x : A) (y : B) → b ≤ n → b < G .count → d + depth (parentOf G) b ≡ e → e ≤ D → R d 0 x y → R e b (fromRoot o G b x) (fromRoot o′ G b y)
@@ -158,7 +164,7 @@ module _ {A B : Type 0} (o : Ops A) (o′ : Ops B) (G : Grid) (tree : Treelike G
 
 -- ---- a current without an imaginary part
 pub carried-real : (G : Grid) → ((i : ℕ) → i < G .count → G .current i .im ≡ 0) → (b : ℕ) → b < G .count → carried G b .im ≡ 0
-unfolding carried across
+unfolding carriedWithout
 carried-real G h b lb =
     walk-related W W (parentOf G) (G .count) (λ c x y. x .im ≡ 0) h (λ c x x′ y y′ l p q. added (x .im) (x′ .im) (x .den) (x′ .den) p q) (λ c i x y lc li e p. crossed c i x p) (2 * G .count + 1) b b lb
   where
@@ -169,8 +175,4 @@ carried-real G h b lb =
     added a a′ d d′ p q = rw (p, q) (omega arith)
 
     crossed : (c i : ℕ) (x : Point) → x .im ≡ 0 → across exact G c i x .im ≡ 0
-    crossed c i x p = go (ltb i c)
-      where
-        go : (d : Bool) → pick d (exact .scale (G .branch c .above) (G .branch c .below) x) (exact .scale (G .branch i .below) (G .branch i .above) x) .im ≡ 0
-        go true = rw p (omega arith)
-        go false = rw p (omega arith)
+    crossed c i x p = across-cases exact G c i x (λ t. t .im ≡ 0) (λ d. rw p (omega arith)) (λ d. rw p (omega arith))

@@ -1,15 +1,15 @@
 -- The size of the converters' part, and that the calculation in f64 is near it.
 -- Assumes nothing.
 use Prim.Native.Nat.{ℕ, zero, suc, _+_, _-_, _*_, _^_, _≤_, _<_}
-use mathlib.Core.Path.{_≡_, refl, sym, _∙_, ap}
+use mathlib.Core.Path.{_≡_, refl, sym}
 use mathlib.Core.List.{[], _∷_}
-use mathlib.Core.Logic.{_⊎_, inl, inr}
+use mathlib.Core.Logic.{inl, inr}
 use native.Mathlib.Omega.{arith}
 use native.Mathlib.Nat.{le-refl, le-trans, le-of-eq, mul-le-mul, mul-pos, mul-suc}
 use lib.Dec.{lit≤}
-use Rattle.algebra.specs.Reading.{identity, poly, from, from-over, read, _⊹_, _⋆_}
+use Rattle.algebra.specs.Reading.{identity, from, from-over, read, _⊹_, _⋆_}
 use Rattle.enclosure.specs.Point.{Point, exact, nothing, sum, times}
-use Rattle.enclosure.specs.Close.{Close, close-scale, close-unscale}
+use Rattle.enclosure.specs.Close.{close-scale, close-unscale}
 use Rattle.enclosure.specs.Near.{Near, NearTo}
 use Rattle.enclosure.specs.Steps.{parts}
 use Rattle.enclosure.specs.Doubles.{doubles}
@@ -17,13 +17,13 @@ use Rattle.enclosure.specs.Fair.{value, Fine}
 use Rattle.enclosure.specs.Range.{Good, Volts}
 use Rattle.enclosure.specs.declared.Complex.{Complex}
 use Rattle.tree.specs.Equal.{equal, _⊛_}
-use Rattle.tree.specs.Depth.{depth}
+use Rattle.tree.specs.Toward.{depth}
 use Rattle.tree.specs.Grid.{Grid, parentOf}
 use Rattle.tree.specs.Bound.{Low, low-more, low-sum}
 use Rattle.tree.specs.Held.{Held, held-more, InRange, held-range, held-good, f64-rules}
 use Rattle.tree.specs.Sound.{Sound, Levels, Amperes}
-use Rattle.tree.specs.Total.{sums}
-use Rattle.tree.specs.Converters.{carried, toRoot, fromRoot, gathered, carriedBy, toRoot-related, fromRoot-related}
+use Rattle.tree.specs.Sums.{sums}
+use Rattle.tree.specs.Converters.{carried, toRoot, gathered, carriedBy, toRoot-related, fromRoot-related}
 use Rattle.tree.specs.Rooted.{Same, carried-proper, carried-root}
 
 -- ---- m to the power of d

@@ -1,12 +1,12 @@
 -- Equations from equations, by polynomials: what `from` of Reading is for orders.
 -- Assumes nothing.
-use Prim.Native.Nat.{ℕ, zero, suc, _+_, _*_, _≤_, _<_}
-use mathlib.Core.Path.{_≡_, refl, sym, _∙_, ap, ap₂}
-use mathlib.Core.List.{List, [], _∷_}
+use Prim.Native.Nat.{ℕ, _+_, _*_, _<_}
+use mathlib.Core.Path.{_≡_, sym, _∙_, ap, ap₂}
+use mathlib.Core.List.{List}
 use native.Mathlib.Omega.{arith}
 use native.Mathlib.Nat.{eq-of-mul-eq-mul-left}
 use Rattle.algebra.specs.Polynomial.{_⊞_, _⊠_, nf, nil, apart, ring}
-use Rattle.algebra.specs.Reading.{Read, Four, Five}
+use Rattle.algebra.specs.Reading.{Four, Five}
 
 infixl 5 _⊕_
 infixl 6 _⊛_

@@ -1,19 +1,18 @@
 -- A feeder at bus 0 feeds every bus: what is seen there is not nothing, and has an imaginary part where the feeder has one ("every
 -- machine has X above 0").
 -- Assumes nothing.
-use Prim.Native.Nat.{ℕ, zero, suc, _+_, _*_, _≤_, _<_}
-use mathlib.Core.Path.{_≡_, refl, sym}
+use Prim.Native.Nat.{ℕ, zero, suc, _+_, _*_, _<_}
+use mathlib.Core.Path.{_≡_, refl}
 use mathlib.Core.Bool.{Bool, true, false}
 use mathlib.Core.List.{[], _∷_}
-use mathlib.Core.Logic.{_⊎_, inl, inr, ⊎-elim}
 use native.Mathlib.Omega.{arith}
 use native.Mathlib.Nat.{mul-pos}
-use lib.Dec.{ltb, eqb}
+use lib.Dec.{eqb}
 use borrow.Author.Tests.{eqb-true, eqb-false}
-use Rattle.algebra.specs.Reading.{from, read, _⊹_, _⋆_}
+use Rattle.algebra.specs.Reading.{from, read}
 use Rattle.enclosure.specs.Point.{pick, Point, nothing, isNothing, sum, times, turned, inverse, exact}
-use Rattle.tree.specs.Walk.{joined, near, near-joined, near-parent, to-parent, to-child, over, walk, walk-related}
-use Rattle.tree.specs.Grid.{Grid, parentOf, Treelike, square, through, admittances, seenBy, seen}
+use Rattle.tree.specs.Walk.{joined, near, near-joined, near-parent, to-parent, to-child, over}
+use Rattle.tree.specs.Grid.{Grid, parentOf, Treelike, through, through-cases, seenBy, seen}
 
 -- every denominator and every rated voltage is above 0
 pub record Proper (G : Grid) : Type 0 where
@@ -36,17 +35,7 @@ inverse-proper x = go (isNothing x) refl
     go false e = norm-pos (x .re) (x .im) (eqb-false (x .re + x .im) 0 e)
 
 pub through-proper : (G : Grid) (b i : ℕ) (y : Point) → 0 < through exact (λ j. G .branch j .z) G b i y .den
-unfolding through
-through-proper G b i y = go (isNothing y) (ltb i b)
-  where
-    go : (s d : Bool)
-        → 0 < pick s nothing
-        (pick d
-        (inverse (sum (G .branch b .z) (square exact (G .branch b .below) (G .branch b .above) (inverse y))))
-        (inverse (square exact (G .branch i .above) (G .branch i .below) (sum (G .branch i .z) (inverse y))))) .den
-    go true d = omega arith
-    go false true = inverse-proper _
-    go false false = inverse-proper _
+through-proper G b i y = through-cases exact (λ j. G .branch j .z) G b i y (λ t. 0 < t .den) (λ e. omega arith) (λ e d. inverse-proper _) (λ e d. inverse-proper _)
 
 over-proper : (joins : ℕ → Bool) (f : ℕ → Point) (x : Point) (m : ℕ) → 0 < x .den → ((i : ℕ) → 0 < f i .den) → 0 < over sum joins f x m .den
 over-proper joins f x zero z h = z
@@ -116,24 +105,17 @@ module _ (c : ℕ) where
 
   module _ (G : Grid) (tree : Treelike G) (proper : Proper G) where
     fed-through : (b i : ℕ) (y : Point) → b < G .count → i < G .count → joined (parentOf G) b i ≡ true → Fed y → Fed (through exact (λ j. G .branch j .z) G b i y)
-    unfolding through
-    fed-through b i y lb li e h = go (isNothing y) (ltb i b) refl refl
-      where
-        go : (s d : Bool) → isNothing y ≡ s → ltb i b ≡ d
-            → Fed
-            (pick s nothing
-            (pick d
-            (inverse (sum (G .branch b .z) (square exact (G .branch b .below) (G .branch b .above) (inverse y))))
-            (inverse (square exact (G .branch i .above) (G .branch i .below) (sum (G .branch i .z) (inverse y))))))
-        go true d p q = absurd (fed-some y h p)
-        go false true p q =
-            let z = to-parent (parentOf G) b i e q .0 in
-            let v = proper .volts b z lb in
-            fed-inverse _ (fed-right _ _ (proper .branch b z lb) (fed-times _ _ _ (v .1) (v .0) (fed-times _ _ _ (v .1) (v .0) (fed-inverse y h))))
-        go false false p q =
-            let z = to-child (parentOf G) b i e q .0 in
-            let v = proper .volts i z li in
-            fed-inverse _ (fed-times _ _ _ (v .0) (v .1) (fed-times _ _ _ (v .0) (v .1) (fed-right _ _ (proper .branch i z li) (fed-inverse y h))))
+    fed-through b i y lb li e h =
+        through-cases exact (λ j. G .branch j .z) G b i y Fed
+        (λ p. absurd (fed-some y h p))
+        (λ p q.
+        let z = to-parent (parentOf G) b i e q .0 in
+        let v = proper .volts b z lb in
+        fed-inverse _ (fed-right _ _ (proper .branch b z lb) (fed-times _ _ _ (v .1) (v .0) (fed-times _ _ _ (v .1) (v .0) (fed-inverse y h)))))
+        (λ p q.
+        let z = to-child (parentOf G) b i e q .0 in
+        let v = proper .volts i z li in
+        fed-inverse _ (fed-times _ _ _ (v .0) (v .1) (fed-times _ _ _ (v .0) (v .1) (fed-right _ _ (proper .branch i z li) (fed-inverse y h)))))
 
     -- from bus 0 down: at b without w, where the way to bus 0 does not lead over w
     fed-walk : Fed (G .own 0) → (fuel b w : ℕ) → b < G .count → b < fuel → (0 < b → parentOf G b ≡ w → ⊥) → Fed (seenBy exact (λ j. G .branch j .z) (G .own) G fuel b w)

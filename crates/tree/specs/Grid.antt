@@ -1,13 +1,13 @@
 -- A tree of buses, and the admittance seen at a bus (document 01, "Seen impedance").
 -- Assumes nothing.
-use Prim.Native.Nat.{ℕ, zero, suc, _+_, _*_, _≤_, _<_}
-use mathlib.Core.Path.{_≡_, refl, sym, _∙_}
+use Prim.Native.Nat.{ℕ, _+_, _*_, _≤_, _<_}
+use mathlib.Core.Path.{_≡_, refl, sym, _∙_, ap}
 use mathlib.Core.Bool.{Bool, true, false}
 use native.Mathlib.Omega.{arith}
 use lib.Dec.{ltb}
 use Rattle.enclosure.specs.Point.{pick, Point, Ops, exact, sum}
 use Rattle.tree.specs.Walk.{joined, near, over, Gather, walk, by-number, more-fuel, walk-equation, only-walk, walk-same, to-parent, to-child}
-use Rattle.tree.specs.Depth.{depth, by-depth}
+use Rattle.tree.specs.Toward.{depth, by-depth}
 
 -- the branch from a bus to its parent: its impedance in ohms on the bus's own side, and the rated volts on the parent's side and on the
 -- bus's own side, 1 and 1 for a line
@@ -42,6 +42,33 @@ through o z G b i y =
     (o .inverse (o .add (z b) (square o (G .branch b .below) (G .branch b .above) (o .inverse y))))
     (o .inverse (square o (G .branch i .above) (G .branch i .below) (o .add (z i) (o .inverse y)))))
 
+-- its three cases, as equations and as one rule
+module _ {A : Type 0} (o : Ops A) (z : ℕ → A) (G : Grid) (b i : ℕ) (y : A) where
+  pub through-nothing : o .empty y ≡ true → through o z G b i y ≡ o .none
+  unfolding through
+  through-nothing e = rw e
+
+  pub through-parent : o .empty y ≡ false → ltb i b ≡ true
+      → through o z G b i y ≡ o .inverse (o .add (z b) (square o (G .branch b .below) (G .branch b .above) (o .inverse y)))
+  unfolding through
+  through-parent e d = rw (e, d)
+
+  pub through-child : o .empty y ≡ false → ltb i b ≡ false
+      → through o z G b i y ≡ o .inverse (square o (G .branch i .above) (G .branch i .below) (o .add (z i) (o .inverse y)))
+  unfolding through
+  through-child e d = rw (e, d)
+
+  pub through-cases : (P : A → Type 0) → (o .empty y ≡ true → P (o .none))
+      → (o .empty y ≡ false → ltb i b ≡ true → P (o .inverse (o .add (z b) (square o (G .branch b .below) (G .branch b .above) (o .inverse y)))))
+      → (o .empty y ≡ false → ltb i b ≡ false → P (o .inverse (square o (G .branch i .above) (G .branch i .below) (o .add (z i) (o .inverse y)))))
+      → P (through o z G b i y)
+  through-cases P none parent child = go (o .empty y) (ltb i b) refl refl
+    where
+      go : (e d : Bool) → o .empty y ≡ e → ltb i b ≡ d → P (through o z G b i y)
+      go true d p q = rw (through-nothing p) (none p)
+      go false true p q = rw (through-parent p q) (parent p q)
+      go false false p q = rw (through-child p q) (child p q)
+
 abbrev pub admittances : {A : Type 0} → Ops A → (ℕ → A) → (ℕ → A) → Grid → Gather A
 admittances o z own G = record { own = own; add = o .add; through = through o z G }
 
@@ -74,19 +101,16 @@ unfolding seen
 sentence-seen G t S q b w l =
     only-walk (admittances exact (λ i. G .branch i .z) (G .own) G) (parentOf G) (G .count) (G .count) (λ i. i) (by-number (parentOf G) (G .count) t) S q (2 * G .count + 1) b w l (omega arith)
 
--- ---- 37 steps are enough where no bus is deeper than 18, for any walk over the tree
-pub walk-37 : {A : Type 0} (W : Gather A) (G : Grid) → Treelike G → ((i : ℕ) → i < G .count → depth (parentOf G) i ≤ 18) → (b w : ℕ) → b < G .count
-    → walk W (parentOf G) (G .count) (2 * G .count + 1) b w ≡ walk W (parentOf G) (G .count) 37 b w
-walk-37 W G t d b w l =
+-- ---- 37 STEPS ARE ENOUGH where no bus is deeper than 18
+pub seen-37 : (G : Grid) → Treelike G → ((i : ℕ) → i < G .count → depth (parentOf G) i ≤ 18) → (b w : ℕ) → b < G .count
+    → seen G b w ≡ seenBy exact (λ i. G .branch i .z) (G .own) G 37 b w
+unfolding seen
+seen-37 G t d b w l =
+    let W = admittances exact (λ i. G .branch i .z) (G .own) G in
     let p = parentOf G in
     let n = G .count in
     more-fuel W p n n (λ i. i) (by-number p n t) (2 * n + 1) (2 * n + 37) b w l (omega arith) (omega arith)
     ∙ more-fuel W p n 18 (depth p) (by-depth p n 18 t d) (2 * n + 37) 37 b w l (omega arith) (omega arith)
-
-pub seen-37 : (G : Grid) → Treelike G → ((i : ℕ) → i < G .count → depth (parentOf G) i ≤ 18) → (b w : ℕ) → b < G .count
-    → seen G b w ≡ seenBy exact (λ i. G .branch i .z) (G .own) G 37 b w
-unfolding seen
-seen-37 G = walk-37 (admittances exact (λ i. G .branch i .z) (G .own) G) G
 
 -- ---- what is seen depends on nothing but the tree, the rated volts, the impedances and the buses' own admittances
 pub record Shaped (G H : Grid) : Type 0 where
@@ -98,21 +122,13 @@ pub record Shaped (G H : Grid) : Type 0 where
 pub seen-same : {A : Type 0} (o : Ops A) (z z′ own own′ : ℕ → A) (G H : Grid) → Shaped G H
     → ((i : ℕ) → 0 < i → i < G .count → z i ≡ z′ i) → ((b : ℕ) → b < G .count → own b ≡ own′ b)
     → (fuel b w : ℕ) → b < G .count → seenBy o z own G fuel b w ≡ seenBy o z′ own′ H fuel b w
-unfolding through
 seen-same {A} o z z′ own own′ G H s hz ho fuel b w l =
-    rw (← (s .count)) (walk-same (o .add) own own′ (through o z G) (through o z′ H) (parentOf G) (parentOf H) (G .count) (s .parent) ho comes fuel b w l)
+    walk-same (o .add) own own′ (through o z G) (through o z′ H) (parentOf G) (parentOf H) (G .count) (s .parent) ho comes fuel b w l
+    ∙ ap (λ (n : ℕ). walk (admittances o z′ own′ H) (parentOf H) n fuel b w) (s .count)
   where
     comes : (b i : ℕ) (x : A) → b < G .count → i < G .count → joined (parentOf G) b i ≡ true → through o z G b i x ≡ through o z′ H b i x
-    comes b i x lb li e = go (ltb i b) refl
-      where
-        go : (d : Bool) → ltb i b ≡ d
-            → pick (o .empty x) (o .none)
-            (pick d
-            (o .inverse (o .add (z b) (square o (G .branch b .below) (G .branch b .above) (o .inverse x))))
-            (o .inverse (square o (G .branch i .above) (G .branch i .below) (o .add (z i) (o .inverse x)))))
-            ≡ pick (o .empty x) (o .none)
-            (pick d
-            (o .inverse (o .add (z′ b) (square o (H .branch b .below) (H .branch b .above) (o .inverse x))))
-            (o .inverse (square o (H .branch i .above) (H .branch i .below) (o .add (z′ i) (o .inverse x)))))
-        go true q = let p = to-parent (parentOf G) b i e q .0 in rw (hz b p lb, s .above b p lb, s .below b p lb)
-        go false q = let p = to-child (parentOf G) b i e q .0 in rw (hz i p li, s .above i p li, s .below i p li)
+    comes b i x lb li e =
+        through-cases o z G b i x (λ t. t ≡ through o z′ H b i x)
+        (λ p. sym (through-nothing o z′ H b i x p))
+        (λ p q. let c = to-parent (parentOf G) b i e q .0 in rw (through-parent o z′ H b i x p q, hz b c lb, s .above b c lb, s .below b c lb))
+        (λ p q. let c = to-child (parentOf G) b i e q .0 in rw (through-child o z′ H b i x p q, hz i c li, s .above i c li, s .below i c li))

@@ -1,13 +1,12 @@
 -- What a calculation in f64 holds: a value near the exact one, of a size that can be calculated with.
 -- Assumes nothing.
-use Prim.Native.Nat.{ℕ, zero, suc, _+_, _-_, _*_, _^_, _≤_, _<_}
+use Prim.Native.Nat.{ℕ, zero, suc, _+_, _*_, _^_, _≤_, _<_}
 use mathlib.Core.Path.{_≡_, refl}
 use mathlib.Core.List.{[], _∷_}
 use mathlib.Core.Logic.{_⊎_, inl, inr}
 use native.Mathlib.Omega.{arith}
 use native.Mathlib.Nat.{le-refl, mul-le-mul, sub-self}
-use lib.Dec.{lit≤}
-use Rattle.algebra.specs.Reading.{from, from-over, read, _⊹_, _⋆_}
+use Rattle.algebra.specs.Reading.{from-over, read, _⊹_, _⋆_}
 use Rattle.enclosure.specs.Point.{Point, exact}
 use Rattle.enclosure.specs.Near.{Near, Rules, NearTo, near-more, fair-rules}
 use Rattle.enclosure.specs.Units.{unit}

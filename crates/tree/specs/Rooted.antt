@@ -4,56 +4,39 @@ use Prim.Native.Nat.{ℕ, zero, suc, _+_, _*_, _≤_, _<_}
 use mathlib.Core.Path.{_≡_, refl, sym, _∙_, ap}
 use mathlib.Core.Bool.{Bool, true, false}
 use mathlib.Core.List.{[], _∷_}
-use mathlib.Core.Logic.{⊎-elim}
 use native.Mathlib.Omega.{arith}
-use native.Mathlib.Nat.{le-refl, mul-pos, mul-assoc, mul-right-comm, mul-one}
+use native.Mathlib.Nat.{le-refl, mul-pos, mul-assoc, mul-right-comm}
 use lib.Dec.{ltb, eqb}
-use borrow.Author.Tests.{ltb-true, lt-ltb, le-ltb, eqb-true, eqb-false}
+use borrow.Author.Tests.{ltb-true, eqb-true, eqb-false}
 use Rattle.algebra.specs.Reading.{identity, read}
-use Rattle.enclosure.specs.Point.{pick, Point, exact, nothing, sum, times}
+use Rattle.enclosure.specs.Point.{pick, Point, exact, sum, times}
 use Rattle.tree.specs.Equal.{equal, equal-over, _⊕_, _⊛_}
-use Rattle.tree.specs.Walk.{joined, joined-cases, walk, walk-related}
-use Rattle.tree.specs.Depth.{depth}
+use Rattle.tree.specs.Walk.{joined, to-parent, to-child, walk-related}
+use Rattle.tree.specs.Toward.{toward, toward-more, depth}
 use Rattle.tree.specs.Grid.{Grid, parentOf, Treelike}
-use Rattle.tree.specs.Total.{sums, plain, total-fuel}
-use Rattle.tree.specs.Converters.{across, currents, carried, toRoot, fromRoot, gathered, carriedBy, toRoot-related, fromRoot-related}
+use Rattle.tree.specs.Sums.{sums}
+use Rattle.tree.specs.Total.{plain, total-fuel}
+use Rattle.tree.specs.Converters.{across, across-cases, currents, carriedWithout, carried, toRoot, gathered, carriedBy, toRoot-related, fromRoot-related}
 
 -- ---- the product of v along the way from b to bus 0
-way : (ℕ → ℕ) → (ℕ → ℕ) → ℕ → ℕ → ℕ
-way p v zero b = 1
-way p v (suc f) b = pick (ltb (p b) b) (v b * way p v f (p b)) 1
-
 along : (ℕ → ℕ) → (ℕ → ℕ) → ℕ → ℕ
-along p v b = way p v b b
-
-way-same : (p v : ℕ → ℕ) (f g b : ℕ) → b ≤ f → b ≤ g → way p v f b ≡ way p v g b
-unfolding way
-way-same p v zero zero b l m = refl
-way-same p v zero (suc g) b l m = rw (le-ltb (p b) b (omega arith))
-way-same p v (suc f) zero b l m = rw (le-ltb (p b) b (omega arith))
-way-same p v (suc f) (suc g) b l m = go (ltb (p b) b) refl (λ h. way-same p v f g (p b) (omega arith) (omega arith))
-  where
-    go : (t : Bool) → ltb (p b) b ≡ t → (p b < b → way p v f (p b) ≡ way p v g (p b)) → pick t (v b * way p v f (p b)) 1 ≡ pick t (v b * way p v g (p b)) 1
-    go true e r = ap (λ (x : ℕ). v b * x) (r (ltb-true (p b) b e))
-    go false e r = refl
+along p v b = toward p (λ i x. v i * x) 1 b b
 
 along-more : (p v : ℕ → ℕ) (b : ℕ) → p b < b → along p v b ≡ v b * along p v (p b)
-unfolding along way
-along-more p v zero h = absurd (omega arith)
-along-more p v (suc b) h = rw (lt-ltb (p (suc b)) (suc b) h) (ap (λ (x : ℕ). v (suc b) * x) (way-same p v b (p (suc b)) (p (suc b)) (omega arith) (omega arith)))
+unfolding along
+along-more p v = toward-more p (λ i x. v i * x) 1
 
-along-root : (p v : ℕ → ℕ) → along p v 0 ≡ 1
-unfolding along way
-along-root p v = refl
-
-way-pos : (p v : ℕ → ℕ) (n : ℕ) → ((i : ℕ) → 0 < i → i < n → 0 < v i) → (f b : ℕ) → b < n → 0 < way p v f b
-unfolding way
-way-pos p v n h zero b l = omega arith
-way-pos p v n h (suc f) b l = go (ltb (p b) b) refl (way-pos p v n h f (p b))
+along-pos : (p v : ℕ → ℕ) (n : ℕ) → ((i : ℕ) → 0 < i → i < n → 0 < v i) → (b : ℕ) → b < n → 0 < along p v b
+unfolding along
+along-pos p v n h b = go b b
   where
-    go : (t : Bool) → ltb (p b) b ≡ t → (p b < n → 0 < way p v f (p b)) → 0 < pick t (v b * way p v f (p b)) 1
-    go true e r = let m = ltb-true (p b) b e in mul-pos (h b (omega arith) l) (r (omega arith))
-    go false e r = omega arith
+    go : (f b : ℕ) → b < n → 0 < toward p (λ i x. v i * x) 1 f b
+    go zero b l = omega arith
+    go (suc f) b l = step (ltb (p b) b) refl (go f (p b))
+      where
+        step : (t : Bool) → ltb (p b) b ≡ t → (p b < n → 0 < toward p (λ i x. v i * x) 1 f (p b)) → 0 < pick t (v b * toward p (λ i x. v i * x) 1 f (p b)) 1
+        step true e r = let m = ltb-true (p b) b e in mul-pos (h b (omega arith) l) (r (omega arith))
+        step false e r = omega arith
 
 -- ---- a common denominator: the product of all, and of all but one
 product : (ℕ → ℕ) → ℕ → ℕ
@@ -120,12 +103,12 @@ module _ (G : Grid) (tree : Treelike G) (volts : (i : ℕ) → 0 < i → i < G .
   belows = along (parentOf G) (λ i. G .branch i .below)
 
   aboves-pos : (b : ℕ) → b < G .count → 0 < aboves b
-  unfolding aboves along
-  aboves-pos b l = way-pos (parentOf G) (λ i. G .branch i .above) (G .count) (λ i z m. volts i z m .0) b b l
+  unfolding aboves
+  aboves-pos = along-pos (parentOf G) (λ i. G .branch i .above) (G .count) (λ i z m. volts i z m .0)
 
   belows-pos : (b : ℕ) → b < G .count → 0 < belows b
-  unfolding belows along
-  belows-pos b l = way-pos (parentOf G) (λ i. G .branch i .below) (G .count) (λ i z m. volts i z m .1) b b l
+  unfolding belows
+  belows-pos = along-pos (parentOf G) (λ i. G .branch i .below) (G .count) (λ i z m. volts i z m .1)
 
   -- the denominator of a bus's current at bus 0, and what the current is over all of them
   under : ℕ → ℕ
@@ -167,18 +150,14 @@ module _ (G : Grid) (tree : Treelike G) (volts : (i : ℕ) → 0 < i → i < G .
       (at-down c e Q (belows (parentOf G b)) (aboves (parentOf G b)) (G .branch b .above) (G .branch b .below) x t (volts b z l .1) h)
 
   at-across : (b i : ℕ) (x : Point) (t : ℕ) → b < G .count → i < G .count → joined (parentOf G) b i ≡ true → At-bus i x t → At-bus b (across exact G b i x) t
-  unfolding across
-  at-across b i x t lb li j h = ⊎-elim down up (joined-cases (parentOf G) b i j)
-    where
-      down : (i < b) × (parentOf G b ≡ i) → At-bus b (pick (ltb i b) (times (G .branch b .above) (G .branch b .below) x) (times (G .branch i .below) (G .branch i .above) x)) t
-      down u = rw (lt-ltb i b (u .0)) (at-falls b x t (omega arith) lb (rw (u .1) h))
-
-      up : (b < i) × (parentOf G i ≡ b) → At-bus b (pick (ltb i b) (times (G .branch b .above) (G .branch b .below) x) (times (G .branch i .below) (G .branch i .above) x)) t
-      up u = rw (le-ltb i b (omega arith)) (rw (u .1) at (at-rises i x t (omega arith) li h))
+  at-across b i x t lb li j h =
+      across-cases exact G b i x (λ y. At-bus b y t)
+      (λ d. let u = to-parent (parentOf G) b i j d in at-falls b x t (u .0) lb (rw (u .1) h))
+      (λ d. let u = to-child (parentOf G) b i j d in rw (u .1) at (at-rises i x t (u .0) li h))
 
   -- by the walk
   at-carried : (b : ℕ) → b < G .count → At-bus b (carried G b) (sums share (G .count))
-  unfolding carried
+  unfolding carriedWithout
   at-carried b l =
       rw (← total-fuel (parentOf G) (G .count) (2 * G .count + 1) tree (omega arith) share b l)
       (walk-related (currents exact (G .current) G) (plain share) (parentOf G) (G .count) At-bus at-own (λ b x x′ t t′ m. at-add b x x′ t t′) at-across (2 * G .count + 1) b b l)

@@ -4,20 +4,20 @@ use Prim.Native.Nat.{ℕ, zero, suc, _+_, _*_, _^_, _≤_, _<_}
 use mathlib.Core.Path.{_≡_, refl}
 use mathlib.Core.Bool.{Bool, true, false}
 use mathlib.Core.List.{[], _∷_}
-use mathlib.Core.Logic.{_⊎_, inl, inr}
+use mathlib.Core.Logic.{inl, inr}
 use native.Mathlib.Omega.{arith}
 use native.Mathlib.Nat.{le-refl, le-trans, le-of-lt, mul-le-mul, mul-le-mul-right, mul-pos}
 use lib.Dec.{ltb, lit≤}
 use Rattle.algebra.specs.Reading.{poly, from, from-over, read, _⊹_, _⋆_}
-use Rattle.enclosure.specs.Point.{pick, Point, nothing, isNothing, sum, inverse, exact}
-use Rattle.enclosure.specs.Near.{Near, NearTo, near-more}
+use Rattle.enclosure.specs.Point.{pick, Point, sum, inverse, exact}
+use Rattle.enclosure.specs.Near.{Near, NearTo}
 use Rattle.enclosure.specs.Steps.{parts}
 use Rattle.enclosure.specs.Doubles.{doubles}
 use Rattle.enclosure.specs.Fair.{value, Fine}
 use Rattle.enclosure.specs.Range.{Good, Volts}
 use Rattle.enclosure.specs.declared.Complex.{Complex}
 use Rattle.tree.specs.Walk.{joined, to-parent, to-child}
-use Rattle.tree.specs.Grid.{Grid, parentOf, square, through, admittances, seenBy, seen, seen-37}
+use Rattle.tree.specs.Grid.{Grid, parentOf, square, through, through-cases, admittances, seenBy, seen, seen-37}
 use Rattle.tree.specs.Bound.{AtMost, AtLeast, Low, most-more, most-sum, low-more, low-sum, low-inverse, inverse-low, referred, through-most}
 use Rattle.tree.specs.Fed.{through-proper}
 use Rattle.tree.specs.Inside.{walk-inside}
@@ -93,32 +93,25 @@ module _ (G : Grid) (U : ℕ → ℕ) (levels : Levels G U) (P S ζ : ℕ) (r : 
 
   low-through : (f b i : ℕ) (x : Point) → b < G .count → i < G .count → joined (parentOf G) b i ≡ true → Low (far ζ f * (U i * U i)) x
       → Low (far ζ (suc f) * (U b * U b)) (through exact (λ j. G .branch j .z) G b i x)
-  unfolding through
-  low-through f b i x lb li e h = go (isNothing x) (ltb i b) refl refl
+  low-through f b i x lb li e h =
+      through-cases exact (λ j. G .branch j .z) G b i x (Low (far ζ (suc f) * (U b * U b)))
+      (λ p. inl refl)
+      (λ p q.
+      let t = to-parent (parentOf G) b i e q in
+      low-inverse ((3 * K + 2 * ζ) * (U b * U b)) _
+      (most-more 1 (ζ * (U b * U b) + 3 * K * (U b * U b)) _ _ (wider ζ K (U b * U b))
+      (most-sum 1 _ _ (G .branch b .z) _ (r .short b (t .0) lb)
+      (square-most (2 * K) (3 * K) (U i) (U b) _ _ (inverse x) (omega arith) (rw (t .1) at (levels .below b (t .0) lb))
+      (twice K (U i * U i) (inverse x) (inverse-low (K * (U i * U i)) x p h))))))
+      (λ p q.
+      let t = to-child (parentOf G) b i e q in
+      low-inverse ((3 * K + 2 * ζ) * (U b * U b)) _
+      (square-most (ζ + 2 * K) (3 * K + 2 * ζ) (U i) (U b) _ _ (sum (G .branch i .z) (inverse x)) (omega arith) (rw (t .1) at (levels .above i (t .0) li))
+      (most-more 1 (ζ * (U i * U i) + 2 * (K * (U i * U i))) _ _ (together ζ K (U i * U i))
+      (most-sum 1 _ _ (G .branch i .z) (inverse x) (r .short i (t .0) li) (inverse-low (K * (U i * U i)) x p h)))))
     where
       K : ℕ
       K = far ζ f
-
-      go : (s d : Bool) → isNothing x ≡ s → ltb i b ≡ d
-          → Low ((3 * K + 2 * ζ) * (U b * U b))
-          (pick s nothing
-          (pick d
-          (inverse (sum (G .branch b .z) (square exact (G .branch b .below) (G .branch b .above) (inverse x))))
-          (inverse (square exact (G .branch i .above) (G .branch i .below) (sum (G .branch i .z) (inverse x))))))
-      go true d p q = inl refl
-      go false true p q =
-          let t = to-parent (parentOf G) b i e q in
-          low-inverse ((3 * K + 2 * ζ) * (U b * U b)) _
-          (most-more 1 (ζ * (U b * U b) + 3 * K * (U b * U b)) _ _ (wider ζ K (U b * U b))
-          (most-sum 1 _ _ (G .branch b .z) _ (r .short b (t .0) lb)
-          (square-most (2 * K) (3 * K) (U i) (U b) _ _ (inverse x) (omega arith) (rw (t .1) at (levels .below b (t .0) lb))
-          (twice K (U i * U i) (inverse x) (inverse-low (K * (U i * U i)) x p h)))))
-      go false false p q =
-          let t = to-child (parentOf G) b i e q in
-          low-inverse ((3 * K + 2 * ζ) * (U b * U b)) _
-          (square-most (ζ + 2 * K) (3 * K + 2 * ζ) (U i) (U b) _ _ (sum (G .branch i .z) (inverse x)) (omega arith) (rw (t .1) at (levels .above i (t .0) li))
-          (most-more 1 (ζ * (U i * U i) + 2 * (K * (U i * U i))) _ _ (together ζ K (U i * U i))
-          (most-sum 1 _ _ (G .branch i .z) (inverse x) (r .short i (t .0) li) (inverse-low (K * (U i * U i)) x p h))))
 
   in-through : (f b i j : ℕ) (x : Point) → b < G .count → i < G .count → joined (parentOf G) b i ≡ true → In f i j x → In (suc f) b P (through exact (λ j. G .branch j .z) G b i x)
   in-through f b i j x lb li e h =

@@ -1,14 +1,14 @@
 -- What is asked of a tree of buses: what acceptance gives of its shape and its voltages, and bounds on its elements so wide that the
 -- ranges of document 01 meet them.
 -- Assumes nothing.
-use Prim.Native.Nat.{ℕ, zero, suc, _+_, _*_, _^_, _≤_, _<_}
-use mathlib.Core.Path.{_≡_, refl}
+use Prim.Native.Nat.{ℕ, _+_, _*_, _^_, _≤_, _<_}
+use mathlib.Core.Path.{refl}
 use mathlib.Core.List.{[], _∷_}
 use native.Mathlib.Omega.{arith}
 use Rattle.algebra.specs.Reading.{from-over, read, _⊹_, _⋆_}
 use Rattle.enclosure.specs.Point.{Point}
 use Rattle.enclosure.specs.Range.{Volts}
-use Rattle.tree.specs.Depth.{depth}
+use Rattle.tree.specs.Toward.{depth}
 use Rattle.tree.specs.Grid.{Grid, parentOf, Treelike}
 use Rattle.tree.specs.Bound.{Low}
 use Rattle.tree.specs.Fed.{Proper}

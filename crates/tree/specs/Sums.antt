@@ -1,6 +1,6 @@
 -- Sums over a list of records, in order: "1/Z of each feeder, generator and motor at b", "the sum of rated current·k".
 -- Assumes nothing.
-use Prim.Native.Nat.{ℕ, zero, suc, _+_, _*_, _≤_, _<_}
+use Prim.Native.Nat.{ℕ, zero, suc, _+_, _<_}
 use mathlib.Core.Path.{_≡_, refl, sym, _∙_, ap}
 use mathlib.Core.Bool.{Bool, true, false}
 use mathlib.Core.List.{List, [], _∷_}
@@ -13,6 +13,11 @@ use Rattle.enclosure.specs.Point.{pick}
 abbrev pub sumOf : {S A : Type 0} → (A → A → A) → (S → Bool) → (S → A) → A → List S → A
 sumOf add t y z [] = z
 sumOf add t y z (s ∷ l) = sumOf add t y (pick (t s) (add z (y s)) z) l
+
+-- the sum of f over the numbers below n
+abbrev pub sums : (ℕ → ℕ) → ℕ → ℕ
+sums f zero = 0
+sums f (suc n) = sums f n + f n
 
 -- the elements that pass a test
 abbrev pub filtered : {S : Type 0} → (S → Bool) → List S → List S

@@ -8,11 +8,8 @@ use native.Mathlib.Omega.{arith}
 use lib.Dec.{ltb, eqb}
 use borrow.Author.Tests.{ltb-true, ltb-false, lt-ltb, le-ltb, eqb-true, eqb-false, eq-eqb, ne-eqb}
 use Rattle.enclosure.specs.Point.{pick}
-use Rattle.tree.specs.Walk.{joined, near, over, Gather, walk, joined-cases, near-joined, over-same, Tree, Enough, enough, more-fuel, by-number, enough-not-zero, enough-next}
-
-abbrev pub sums : (ℕ → ℕ) → ℕ → ℕ
-sums f zero = 0
-sums f (suc n) = sums f n + f n
+use Rattle.tree.specs.Sums.{sums}
+use Rattle.tree.specs.Walk.{joined, near, over, Gather, walk, joined-cases, near-joined, near-parent, over-same, Tree, Enough, enough, more-fuel, by-number, enough-not-zero, enough-next}
 
 abbrev pub plain : (ℕ → ℕ) → Gather ℕ
 plain f = record { own = f; add = _+_; through = λ b i x. x }
@@ -55,10 +52,6 @@ handed p f n j = pick (eqb (p n) j) (f j + f n) (f j)
 last-near : (p : ℕ → ℕ) (n b w : ℕ) → b < n → (n ≡ w → ⊥) → near p b w n ≡ eqb (p n) b
 unfolding near joined
 last-near p n b w l m = rw (ne-eqb n w m, le-ltb n b (omega arith), lt-ltb b n l)
-
-self-near : (p : ℕ → ℕ) (b : ℕ) → near p b b b ≡ false
-unfolding near
-self-near p b = rw (eq-eqb b b refl)
 
 sums-handed : (p f : ℕ → ℕ) (n m : ℕ) → (p n < m → sums (handed p f n) m ≡ sums f m + f n) × (m ≤ p n → sums (handed p f n) m ≡ sums f m)
 sums-handed p f n zero = (λ l. absurd (omega arith), λ l. refl)
@@ -136,10 +129,6 @@ near-none p b i = go (eqb i b) refl
     go true e = rw (eqb-true i b e) (sym (joined-self p b))
     go false e = refl
 
-joined-up : (p : ℕ → ℕ) (b : ℕ) → p b < b → joined p b (p b) ≡ true
-unfolding joined
-joined-up p b l = rw (lt-ltb (p b) b l) (eq-eqb (p b) (p b) refl)
-
 near-without : (p : ℕ → ℕ) (b w : ℕ) → near p b w w ≡ false
 unfolding near
 near-without p b w = rw (eq-eqb w w refl)
@@ -167,7 +156,7 @@ module _ (p : ℕ → ℕ) (D k : ℕ) (room : 2 * D < suc k) where
 
       last : walk (plain f) p (suc n) (suc (suc k)) n n ≡ sums f (suc n)
       last =
-          over-one (near p n n) (λ i. walk (plain f) p (suc n) (suc k) i n) (f n) (p n) (suc n) (omega (arith, up)) (near-none p n (p n) ∙ joined-up p n up)
+          over-one (near p n n) (λ i. walk (plain f) p (suc n) (suc k) i n) (f n) (p n) (suc n) (omega (arith, up)) (near-parent p n n up (λ e. omega (arith, up)))
           (λ i s e. ⊎-elim (λ u. sym (u .1)) (λ u. absurd (omega arith)) (joined-cases p n i (near-joined p n n i e .0)))
           ∙ ap (λ (x : ℕ). x + walk (plain f) p (suc n) (suc k) (p n) n) (sym (leaf p D (λ i. i) f n k))
           ∙ aside p n up (λ i. walk (plain f) p (suc n) k i (p n)) (f (p n))
