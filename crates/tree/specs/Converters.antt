@@ -13,18 +13,23 @@ use Rattle.tree.specs.Walk.{near, over, Gather, walk, walk-related, walk
 use Rattle.tree.specs.Toward.{toward, toward-more, toward-end, toward-same, depth, depth-more, depth-end}
 use Rattle.tree.specs.Grid.{Grid, parentOf, Treelike, Shaped}
 
--- "each multiplied at a crossing by rated volts left over rated volts arrived at": a current at i, carried to its neighbour b, its child
--- or its parent
+-- "each multiplied at a crossing by rated volts left over rated volts arrived at": over the branch of bus i, to its parent and from it
+abbrev pub upward : {A : Type 0} → Ops A → Grid → ℕ → A → A
+upward o G i x = o .scale (G .branch i .below) (G .branch i .above) x
+
+abbrev pub downward : {A : Type 0} → Ops A → Grid → ℕ → A → A
+downward o G i x = o .scale (G .branch i .above) (G .branch i .below) x
+
+-- a current at i, carried to its neighbour b, a child of i or its parent
 unfoldable pub across : {A : Type 0} → Ops A → Grid → ℕ → ℕ → A → A
-across o G b i x = pick (ltb i b) (o .scale (G .branch b .above) (G .branch b .below) x) (o .scale (G .branch i .below) (G .branch i .above) x)
+across o G b i x = pick (ltb i b) (downward o G b x) (upward o G i x)
 
 pub across-cases : {A : Type 0} (o : Ops A) (G : Grid) (b i : ℕ) (x : A) (P : A → Type 0)
-    → (ltb i b ≡ true → P (o .scale (G .branch b .above) (G .branch b .below) x)) → (ltb i b ≡ false → P (o .scale (G .branch i .below) (G .branch i .above) x))
-    → P (across o G b i x)
+    → (ltb i b ≡ true → P (downward o G b x)) → (ltb i b ≡ false → P (upward o G i x)) → P (across o G b i x)
 unfolding across
 across-cases o G b i x P parent child = go (ltb i b) refl
   where
-    go : (d : Bool) → ltb i b ≡ d → P (pick d (o .scale (G .branch b .above) (G .branch b .below) x) (o .scale (G .branch i .below) (G .branch i .above) x))
+    go : (d : Bool) → ltb i b ≡ d → P (pick d (downward o G b x) (upward o G i x))
     go true q = parent q
     go false q = child q
 
@@ -40,15 +45,15 @@ abbrev pub carried : Grid → ℕ → Point
 carried G b = carriedWithout G b b
 
 -- ---- THE SENTENCE of document 01, which knows no fuel; what is gathered satisfies it, and nothing else does
-abbrev pub Sentence : Grid → (ℕ → ℕ → Point) → Type 0
-Sentence G S = (b w : ℕ) → b < G .count → S b w ≡ over sum (near (parentOf G) b w) (λ i. across exact G b i (S i b)) (G .current b) (G .count)
+abbrev pub CurrentSentence : Grid → (ℕ → ℕ → Point) → Type 0
+CurrentSentence G S = (b w : ℕ) → b < G .count → S b w ≡ over sum (near (parentOf G) b w) (λ i. across exact G b i (S i b)) (G .current b) (G .count)
 
-pub carried-sentence : (G : Grid) → Treelike G → Sentence G (carriedWithout G)
+pub carried-sentence : (G : Grid) → Treelike G → CurrentSentence G (carriedWithout G)
 unfolding carriedWithout
 carried-sentence G t b w l =
     walk-equation (currents exact (G .current) G) (parentOf G) (G .count) (G .count) (λ i. i) (by-number (parentOf G) (G .count) t) (2 * G .count + 1) b w l (omega arith)
 
-pub sentence-carried : (G : Grid) → Treelike G → (S : ℕ → ℕ → Point) → Sentence G S → (b w : ℕ) → b < G .count → S b w ≡ carriedWithout G b w
+pub sentence-carried : (G : Grid) → Treelike G → (S : ℕ → ℕ → Point) → CurrentSentence G S → (b w : ℕ) → b < G .count → S b w ≡ carriedWithout G b w
 unfolding carriedWithout
 sentence-carried G t S q b w l =
     only-walk (currents exact (G .current) G) (parentOf G) (G .count) (G .count) (λ i. i) (by-number (parentOf G) (G .count) t) S q (2 * G .count + 1) b w l (omega arith)
@@ -56,11 +61,11 @@ sentence-carried G t S q b w l =
 -- ---- the same by "recursion from a bus towards bus 0 for depth and rated ratios, bus number falling"
 -- a current x at b, carried to bus 0
 unfoldable pub toRoot : {A : Type 0} → Ops A → Grid → ℕ → A → A
-toRoot o G b = toward (parentOf G) (λ i carry x. carry (o .scale (G .branch i .below) (G .branch i .above) x)) (λ x. x) b b
+toRoot o G b = toward (parentOf G) (λ i carry x. carry (upward o G i x)) (λ x. x) b b
 
 -- a current x at bus 0, carried to b
 unfoldable pub fromRoot : {A : Type 0} → Ops A → Grid → ℕ → A → A
-fromRoot o G b x = toward (parentOf G) (λ i y. o .scale (G .branch i .above) (G .branch i .below) y) x b b
+fromRoot o G b x = toward (parentOf G) (downward o G) x b b
 
 -- the currents of the buses below n, each carried to bus 0
 abbrev pub gathered : {A : Type 0} → Ops A → (ℕ → A) → Grid → ℕ → A
@@ -72,23 +77,21 @@ abbrev pub carriedBy : {A : Type 0} → Ops A → (ℕ → A) → Grid → ℕ �
 carriedBy o c G b = fromRoot o G b (gathered o c G (G .count))
 
 -- ---- for code: the cases of the recursions, and one more bus in a loop
-pub toRoot-more : {A : Type 0} (o : Ops A) (G : Grid) (b : ℕ) (x : A) → parentOf G b < b
-    → toRoot o G b x ≡ toRoot o G (parentOf G b) (o .scale (G .branch b .below) (G .branch b .above) x)
+pub toRoot-more : {A : Type 0} (o : Ops A) (G : Grid) (b : ℕ) (x : A) → parentOf G b < b → toRoot o G b x ≡ toRoot o G (parentOf G b) (upward o G b x)
 unfolding toRoot
-toRoot-more {A} o G b x h = ap (λ (f : A → A). f x) (toward-more (parentOf G) (λ i carry y. carry (o .scale (G .branch i .below) (G .branch i .above) y)) (λ y. y) b h)
+toRoot-more {A} o G b x h = ap (λ (f : A → A). f x) (toward-more (parentOf G) (λ i carry y. carry (upward o G i y)) (λ y. y) b h)
 
 pub toRoot-end : {A : Type 0} (o : Ops A) (G : Grid) (b : ℕ) (x : A) → b ≤ parentOf G b → toRoot o G b x ≡ x
 unfolding toRoot
-toRoot-end {A} o G b x h = ap (λ (f : A → A). f x) (toward-end (parentOf G) (λ i carry y. carry (o .scale (G .branch i .below) (G .branch i .above) y)) (λ y. y) b h)
+toRoot-end {A} o G b x h = ap (λ (f : A → A). f x) (toward-end (parentOf G) (λ i carry y. carry (upward o G i y)) (λ y. y) b h)
 
-pub fromRoot-more : {A : Type 0} (o : Ops A) (G : Grid) (b : ℕ) (x : A) → parentOf G b < b
-    → fromRoot o G b x ≡ o .scale (G .branch b .above) (G .branch b .below) (fromRoot o G (parentOf G b) x)
+pub fromRoot-more : {A : Type 0} (o : Ops A) (G : Grid) (b : ℕ) (x : A) → parentOf G b < b → fromRoot o G b x ≡ downward o G b (fromRoot o G (parentOf G b) x)
 unfolding fromRoot
-fromRoot-more o G b x h = toward-more (parentOf G) (λ i y. o .scale (G .branch i .above) (G .branch i .below) y) x b h
+fromRoot-more o G b x h = toward-more (parentOf G) (downward o G) x b h
 
 pub fromRoot-end : {A : Type 0} (o : Ops A) (G : Grid) (b : ℕ) (x : A) → b ≤ parentOf G b → fromRoot o G b x ≡ x
 unfolding fromRoot
-fromRoot-end o G b x h = toward-end (parentOf G) (λ i y. o .scale (G .branch i .above) (G .branch i .below) y) x b h
+fromRoot-end o G b x h = toward-end (parentOf G) (downward o G) x b h
 
 pub gathered-more : {A : Type 0} (o : Ops A) (c : ℕ → A) (G : Grid) (i : ℕ) → gathered o c G (i + 1) ≡ o .add (gathered o c G i) (toRoot o G i (c i))
 gathered-more o c G i = rw add-one
@@ -102,13 +105,12 @@ carried-same {A} o c c′ G H s h b l = from-same b (gathered o c G (G .count)) 
     to-same : (i : ℕ) (x : A) → i < G .count → toRoot o G i x ≡ toRoot o H i x
     to-same i x l =
         ap (λ (f : A → A). f x)
-        (toward-same (parentOf G) (parentOf H) (λ j carry y. carry (o .scale (G .branch j .below) (G .branch j .above) y)) (λ j carry y. carry (o .scale (H .branch j .below) (H .branch j .above) y)) (λ y. y) (G .count) (s .parent)
+        (toward-same (parentOf G) (parentOf H) (λ j carry y. carry (upward o G j y)) (λ j carry y. carry (upward o H j y)) (λ y. y) (G .count) (s .parent)
         (λ j k z m. ap₂ {C = A → A} (λ (p q : ℕ) y. k (o .scale p q y)) (s .below j z m) (s .above j z m)) i i l)
 
     from-same : (i : ℕ) (x : A) → i < G .count → fromRoot o G i x ≡ fromRoot o H i x
     from-same i x l =
-        toward-same (parentOf G) (parentOf H) (λ j y. o .scale (G .branch j .above) (G .branch j .below) y) (λ j y. o .scale (H .branch j .above) (H .branch j .below) y) x (G .count) (s .parent)
-        (λ j y z m. ap₂ (λ (p q : ℕ). o .scale p q y) (s .above j z m) (s .below j z m)) i i l
+        toward-same (parentOf G) (parentOf H) (downward o G) (downward o H) x (G .count) (s .parent) (λ j y z m. ap₂ (λ (p q : ℕ). o .scale p q y) (s .above j z m) (s .below j z m)) i i l
 
     all : (n : ℕ) → n ≤ G .count → gathered o c G n ≡ gathered o c′ H n
     all zero m = refl
@@ -120,10 +122,8 @@ zero-or (suc n) = inr (omega arith)
 
 -- ---- what holds at a bus and over a branch holds at the end of a way: R d b x y is what is known of x and y at b after d branches
 module _ {A B : Type 0} (o : Ops A) (o′ : Ops B) (G : Grid) (tree : Treelike G) (D : ℕ) (R : ℕ → ℕ → A → B → Type 0)
-    (rises : (d b : ℕ) (x : A) (y : B) → d < D → 0 < b → b < G .count → R d b x y
-    → R (suc d) (parentOf G b) (o .scale (G .branch b .below) (G .branch b .above) x) (o′ .scale (G .branch b .below) (G .branch b .above) y))
-    (falls : (d b : ℕ) (x : A) (y : B) → d < D → 0 < b → b < G .count → R d (parentOf G b) x y
-    → R (suc d) b (o .scale (G .branch b .above) (G .branch b .below) x) (o′ .scale (G .branch b .above) (G .branch b .below) y)) where
+    (rises : (d b : ℕ) (x : A) (y : B) → d < D → 0 < b → b < G .count → R d b x y → R (suc d) (parentOf G b) (upward o G b x) (upward o′ G b y))
+    (falls : (d b : ℕ) (x : A) (y : B) → d < D → 0 < b → b < G .count → R d (parentOf G b) x y → R (suc d) b (downward o G b x) (downward o′ G b y)) where
   up-end : (b d e : ℕ) (x : A) (y : B) → b ≡ 0 → d + depth (parentOf G) b ≡ e → R d b x y → R e 0 (toRoot o G b x) (toRoot o′ G b y)
   up-end b d e x y z q h =
       let g : d ≡ e = omega (arith, depth-end (parentOf G) b (omega arith)) in

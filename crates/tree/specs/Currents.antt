@@ -23,7 +23,7 @@ use Rattle.tree.specs.Bound.{Low, low-more, low-sum}
 use Rattle.tree.specs.Held.{Held, held-more, InRange, held-range, held-good, f64-rules}
 use Rattle.tree.specs.Sound.{Sound, Levels, Amperes}
 use Rattle.tree.specs.Sums.{sums}
-use Rattle.tree.specs.Converters.{carried, toRoot, gathered, carriedBy, toRoot-related, fromRoot-related}
+use Rattle.tree.specs.Converters.{upward, downward, carried, toRoot, gathered, carriedBy, toRoot-related, fromRoot-related}
 use Rattle.tree.specs.Rooted.{Same, carried-proper, carried-root}
 
 -- ---- m to the power of d
@@ -104,13 +104,13 @@ module _ (G : Grid) (U : ℕ → ℕ) (sound : Sound G) (levels : Levels G U) wh
     pub proper : 0 < x .den
     pub most : (x .re + x .im) * U b * power 9 d ≤ c * power 11 d * x .den
 
-  most-rises : (d b c : ℕ) (x : Point) → 0 < b → b < G .count → Most d b c x → Most (suc d) (parentOf G b) c (times (G .branch b .below) (G .branch b .above) x)
+  most-rises : (d b c : ℕ) (x : Point) → 0 < b → b < G .count → Most d b c x → Most (suc d) (parentOf G b) c (upward exact G b x)
   most-rises d b c x z l h = record {
     proper = mul-pos (h .proper) (sound .volts b z l .0 .0);
     most = carry-most (x .re) (x .im) (x .den) (U b) (U (parentOf G b)) (G .branch b .below) (G .branch b .above) c (power 9 d) (power 11 d) (levels .below b z l) (h .most);
   }
 
-  most-falls : (d b c : ℕ) (x : Point) → 0 < b → b < G .count → Most d (parentOf G b) c x → Most (suc d) b c (times (G .branch b .above) (G .branch b .below) x)
+  most-falls : (d b c : ℕ) (x : Point) → 0 < b → b < G .count → Most d (parentOf G b) c x → Most (suc d) b c (downward exact G b x)
   most-falls d b c x z l h = record {
     proper = mul-pos (h .proper) (sound .volts b z l .1 .0);
     most = carry-most (x .re) (x .im) (x .den) (U (parentOf G b)) (U b) (G .branch b .above) (G .branch b .below) c (power 9 d) (power 11 d) (levels .above b z l) (h .most);
@@ -209,7 +209,7 @@ module _ (G : Grid) (U : ℕ → ℕ) (sound : Sound G) (levels : Levels G U) wh
         held-more (k + 8 * d + 8) (k + 8 * suc d) _ _ (omega arith) (t .0, t .1 .fine)
 
     step-rises : (k d b : ℕ) (x : Point) (y : Complex) → k ≤ 100000 → d < 36 → 0 < b → b < G .count → Step c k d b x y
-        → Step c k (suc d) (parentOf G b) (times (G .branch b .below) (G .branch b .above) x) (doubles .scale (G .branch b .below) (G .branch b .above) y)
+        → Step c k (suc d) (parentOf G b) (upward exact G b x) (upward doubles G b y)
     step-rises k d b x y m l z lb h =
         let v = sound .volts b z lb in
         record {
@@ -220,7 +220,7 @@ module _ (G : Grid) (U : ℕ → ℕ) (sound : Sound G) (levels : Levels G U) wh
         }
 
     step-falls : (k d b : ℕ) (x : Point) (y : Complex) → k ≤ 100000 → d < 36 → 0 < b → b < G .count → Step c k d (parentOf G b) x y
-        → Step c k (suc d) b (times (G .branch b .above) (G .branch b .below) x) (doubles .scale (G .branch b .above) (G .branch b .below) y)
+        → Step c k (suc d) b (downward exact G b x) (downward doubles G b y)
     step-falls k d b x y m l z lb h =
         let v = sound .volts b z lb in
         record {

@@ -4,7 +4,7 @@ use Prim.Native.Nat.{ℕ, _*_}
 use mathlib.Core.Path.{_≡_, refl}
 use mathlib.Core.Bool.{Bool, true, _&&_}
 use lib.Dec.{eqb}
-use Rattle.enclosure.specs.Point.{pick, Point, nothing, inverse, exact}
+use Rattle.enclosure.specs.Point.{pick, Point, inverse, exact}
 use Rattle.tree.specs.Walk.{joined, near}
 use Rattle.tree.specs.Grid.{Grid, through, seen}
 use Rattle.tree.specs.Converters.{across, carriedWithout, carried, toRoot, fromRoot, carriedBy}

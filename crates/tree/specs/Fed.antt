@@ -45,6 +45,16 @@ over-proper joins f x (suc m) z h = go (joins m) (over-proper joins f x m z h)
     go true q = mul-pos q (h m)
     go false q = q
 
+pub seen-proper : (G : Grid) → Proper G → (b w : ℕ) → b < G .count → 0 < seen G b w .den
+unfolding seen
+seen-proper G p b w l = go (2 * G .count + 1)
+  where
+    go : (fuel : ℕ) → 0 < seenBy exact (λ j. G .branch j .z) (G .own) G fuel b w .den
+    go zero = p .own b l
+    go (suc f) =
+        over-proper (near (parentOf G) b w) (λ i. through exact (λ j. G .branch j .z) G b i (seenBy exact (λ j. G .branch j .z) (G .own) G f i b)) (G .own b) (G .count) (p .own b l)
+        (λ i. through-proper G b i _)
+
 -- ---- c·re + im is above 0: with c = 1 the point is not nothing, with c = 0 it has an imaginary part
 module _ (c : ℕ) where
   abbrev Fed : Point → Type 0

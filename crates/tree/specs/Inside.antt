@@ -25,7 +25,7 @@ module _ {A B : Type 0} (add : A → A → A) (add′ : B → B → B) (In : ℕ
   )
   one j k k₀ x x′ y y′ false m l u h g = (in-more j (j + e) x (omega arith) (h .0), more k (k + a) x y (omega arith) (h .1))
 
-  pub over-inside : (joins : ℕ → Bool) (f : ℕ → A) (g : ℕ → B) (x : A) (y : B) (j k k₀ m : ℕ) → k₀ ≤ k → k + a * m ≤ limit → j + e * m ≤ J → In j x × R k x y
+  over-inside : (joins : ℕ → Bool) (f : ℕ → A) (g : ℕ → B) (x : A) (y : B) (j k k₀ m : ℕ) → k₀ ≤ k → k + a * m ≤ limit → j + e * m ≤ J → In j x × R k x y
       → ((i : ℕ) → i < m → joins i ≡ true → In e (f i) × R k₀ (f i) (g i)) → In (j + e * m) (over add joins f x m) × R (k + a * m) (over add joins f x m) (over add′ joins g y m)
   over-inside joins f g x y j k k₀ zero d l u h q = (in-more j (j + e * 0) x (omega arith) (h .0), more k (k + a * 0) x y (omega arith) (h .1))
   over-inside joins f g x y j k k₀ (suc m) d l u h q =

@@ -16,7 +16,7 @@ use Rattle.tree.specs.Toward.{toward, toward-more, depth}
 use Rattle.tree.specs.Grid.{Grid, parentOf, Treelike}
 use Rattle.tree.specs.Sums.{sums}
 use Rattle.tree.specs.Total.{plain, total-fuel}
-use Rattle.tree.specs.Converters.{across, across-cases, currents, carriedWithout, carried, toRoot, gathered, carriedBy, toRoot-related, fromRoot-related}
+use Rattle.tree.specs.Converters.{upward, downward, across, across-cases, currents, carriedWithout, carried, toRoot, gathered, carriedBy, toRoot-related, fromRoot-related}
 
 -- ---- the product of v along the way from b to bus 0
 along : (ℕ → ℕ) → (ℕ → ℕ) → ℕ → ℕ
@@ -137,13 +137,13 @@ module _ (G : Grid) (tree : Treelike G) (volts : (i : ℕ) → 0 < i → i < G .
   unfolding At-bus
   at-add b = at-sum c e Q (belows b) (aboves b)
 
-  at-rises : (b : ℕ) (x : Point) (t : ℕ) → 0 < b → b < G .count → At-bus b x t → At-bus (parentOf G b) (times (G .branch b .below) (G .branch b .above) x) t
+  at-rises : (b : ℕ) (x : Point) (t : ℕ) → 0 < b → b < G .count → At-bus b x t → At-bus (parentOf G b) (upward exact G b x) t
   unfolding At-bus aboves belows
   at-rises b x t z l h =
       at-up c e Q (belows (parentOf G b)) (aboves (parentOf G b)) (G .branch b .above) (G .branch b .below) x t (volts b z l .0)
       (rw (along-more (parentOf G) (λ i. G .branch i .below) b (tree b z l), along-more (parentOf G) (λ i. G .branch i .above) b (tree b z l)) at h)
 
-  at-falls : (b : ℕ) (x : Point) (t : ℕ) → 0 < b → b < G .count → At-bus (parentOf G b) x t → At-bus b (times (G .branch b .above) (G .branch b .below) x) t
+  at-falls : (b : ℕ) (x : Point) (t : ℕ) → 0 < b → b < G .count → At-bus (parentOf G b) x t → At-bus b (downward exact G b x) t
   unfolding At-bus aboves belows
   at-falls b x t z l h =
       rw (along-more (parentOf G) (λ i. G .branch i .below) b (tree b z l), along-more (parentOf G) (λ i. G .branch i .above) b (tree b z l))

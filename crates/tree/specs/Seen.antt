@@ -13,22 +13,21 @@ use Rattle.enclosure.specs.Point.{pick, Point, sum, inverse, exact}
 use Rattle.enclosure.specs.Near.{Near, NearTo}
 use Rattle.enclosure.specs.Steps.{parts}
 use Rattle.enclosure.specs.Doubles.{doubles}
-use Rattle.enclosure.specs.Fair.{value, Fine}
-use Rattle.enclosure.specs.Range.{Good, Volts}
+use Rattle.enclosure.specs.Fair.{value, size, Fine}
+use Rattle.enclosure.specs.Range.{Between, Good, Volts}
 use Rattle.enclosure.specs.declared.Complex.{Complex}
 use Rattle.tree.specs.Walk.{joined, to-parent, to-child}
 use Rattle.tree.specs.Grid.{Grid, parentOf, square, through, through-cases, admittances, seenBy, seen, seen-37}
 use Rattle.tree.specs.Bound.{AtMost, AtLeast, Low, most-more, most-sum, low-more, low-sum, low-inverse, inverse-low, referred, through-most}
-use Rattle.tree.specs.Fed.{through-proper}
+use Rattle.tree.specs.Fed.{through-proper, seen-some}
 use Rattle.tree.specs.Inside.{walk-inside}
 use Rattle.tree.specs.Through.{through-near}
-use Rattle.tree.specs.Held.{Held, held-more, InRange, held-range, held-good, f64-rules}
-use Rattle.tree.specs.Sound.{Sound, Levels, Plain}
+use Rattle.tree.specs.Held.{Held, held-more, InRange, held-range, held-some, held-good, f64-rules}
+use Rattle.tree.specs.Sound.{Sound, Levels, Plain, sound-proper}
 
 -- ---- what the proof needs of the elements: every impedance is at least 2/P, referred or not, and at most ζ·Un²; what a bus has itself
 -- is at most S, and nothing or at least 1/(ζ·Un²)
 record Ranged (G : Grid) (U : ℕ → ℕ) (P S ζ : ℕ) : Type 0 where
-  pub proper : (i : ℕ) → 0 < i → i < G .count → 0 < G .branch i .z .den
   pub long : (i : ℕ) → 0 < i → i < G .count → AtLeast 1 P (G .branch i .z)
   pub apart : (b i : ℕ) → b < G .count → i < G .count → joined (parentOf G) b i ≡ true → AtLeast 1 P (referred G b i)
   pub short : (i : ℕ) → 0 < i → i < G .count → AtMost 1 (ζ * (U i * U i)) (G .branch i .z)
@@ -175,7 +174,7 @@ module _ (G : Grid) (U : ℕ → ℕ) (levels : Levels G U) (P S ζ : ℕ) (r : 
           ))
           37 b w (le-refl 37) lb l .1)
 
--- ---- the elements of document 01 are in range
+-- ---- elements within the bounds of Plain are in range
 least-own : (a b d : ℕ) → 0 < a + b → d ≤ 2 ^ 100 → 2 * (1 * d) ≤ 2 ^ 180 * (a + b)
 least-own a b d z h = from (a ∷ b ∷ d ∷ []) (2 ⋆ h ⊹ 2 ^ 101 ⋆ z) (search read depth 40 fits 20000) refl
 
@@ -212,7 +211,6 @@ module _ (G : Grid) (U : ℕ → ℕ) (sound : Sound G) (levels : Levels G U) (p
 
   ranged : Ranged G U (2 ^ 180) (2 ^ 108) (2 ^ 60)
   ranged = record {
-    proper = λ i z l. plain .branch i z l .proper;
     long = λ i z l. let h = plain .branch i z l in least-own (G .branch i .z .re) (G .branch i .z .im) (G .branch i .z .den) (h .some) (h .fine);
     apart = apart;
     short = λ i z l. short-own (G .branch i .z .re + G .branch i .z .im) (G .branch i .z .den) (U i) (levels .nominal i l .0) (plain .branch i z l .short);
@@ -224,7 +222,7 @@ module _ (G : Grid) (U : ℕ → ℕ) (sound : Sound G) (levels : Levels G U) (p
   wide : far (2 ^ 60) 37 * (2 ^ 19 * 2 ^ 19) ≤ 2 ^ 199
   wide = lit≤ tt
 
-  -- A BOUND FROM BELOW AND ABOVE on what is seen
+  -- WHAT IS SEEN IS IN RANGE: nothing, or from 2 ^ -199 to 2 ^ 199
   pub seen-low : (b w : ℕ) → b < G .count → Low (2 ^ 199) (seen G b w)
   seen-low b w lb = in-low G U levels (2 ^ 180) (2 ^ 108) (2 ^ 60) ranged wide (tall-128 (G .count) few) 37 b _ (seen G b w) (le-refl 37) lb (in-seen G U levels (2 ^ 180) (2 ^ 108) (2 ^ 60) ranged sound b w lb)
 
@@ -248,3 +246,9 @@ module _ (G : Grid) (U : ℕ → ℕ) (sound : Sound G) (levels : Levels G U) (p
     seen-range b w lb =
         let m = room kₑ (G .count) l few in
         held-range (kₑ + (46 + 4 * G .count) * 37) (seen G b w) _ (omega arith) (seen-near b w lb) (seen-low b w lb) (seen-high b w lb)
+
+    -- and not 0, where a feeder stands at bus 0
+    pub seen-fed : 0 < G .own 0 .re + G .own 0 .im → (b : ℕ) → b < G .count → Between (2 ^ 200) (size (seenBy doubles z′ own′ G 37 b b))
+    seen-fed h b lb =
+        let m = room kₑ (G .count) l few in
+        held-some (kₑ + (46 + 4 * G .count) * 37) (seen G b b) _ (omega arith) (seen-near b b lb) (seen-some G (sound .tree) (sound-proper G sound plain) h b lb) (seen-range b b lb)

@@ -45,7 +45,7 @@ over-one joins g z u (suc m) l t h = go (joins m) refl (λ k. over-one joins g z
         not-last k = let c : _≡_ {A = ℕ} 0 1 = cc (ap joins k) in absurd (omega arith)
 
 -- the last bus handed to its parent
-abbrev pub handed : (ℕ → ℕ) → (ℕ → ℕ) → ℕ → ℕ → ℕ
+abbrev handed : (ℕ → ℕ) → (ℕ → ℕ) → ℕ → ℕ → ℕ
 handed p f n j = pick (eqb (p n) j) (f j + f n) (f j)
 
 -- a bus below n has bus n for a neighbour exactly where it is its parent
@@ -168,7 +168,7 @@ module _ (p : ℕ → ℕ) (D k : ℕ) (room : 2 * D < suc k) where
       go false e = let q : b ≡ n = omega (arith, ltb-false b n e) in rw q last
 
   -- EVERY BUS ONCE, from wherever the walk starts
-  pub total : (n : ℕ) → Tree p n D (λ i. i) → (f : ℕ → ℕ) (b : ℕ) → b < n → walk (plain f) p n (suc (suc k)) b b ≡ sums f n
+  total : (n : ℕ) → Tree p n D (λ i. i) → (f : ℕ → ℕ) (b : ℕ) → b < n → walk (plain f) p n (suc (suc k)) b b ≡ sums f n
   total zero t f b l = absurd (omega arith)
   total (suc zero) t f b l =
       over-none (near p b b) (λ i. walk (plain f) p 1 (suc k) i b) (f b) 1 (λ i s e. near-joined p b b i e .1 (omega arith)) ∙ (let q : b ≡ 0 = omega arith in rw q (omega arith))
