@@ -1,0 +1,4 @@
+pub mod Records
+pub mod Network
+pub mod Grounds
+pub mod Calls
