@@ -1,11 +1,10 @@
 -- "The network of a study is read off the calls made on it, each given the study as the one before left it."
-use mathlib.Core.Bool.{false}
 use mathlib.Core.List.{List, [], _∷_}
 use Prim.Native.Nat.{ℕ}
 use Rattle.network.specs.declared.Bus.{Bus}
 use Rattle.network.specs.declared.Source.{Source}
 use Rattle.network.specs.Network.{Network}
-use Rattle.network.specs.Grounds.{startNetwork, afterBus, afterSource, afterClose}
+use Rattle.network.specs.Grounds.{emptyOf, startNetwork, afterBus, afterSource, afterClose}
 
 -- a call on a study: started with a tolerance, given a bus record or a source record, closed, asked for a bus
 pub data Call : Type 0 where
@@ -30,7 +29,7 @@ runFrom n (c ∷ cs) = runFrom (step n c) cs
 
 -- before any call there are no records, and "A refused start or file leaves tolerance 6 and no records"
 abbrev pub emptyNetwork : Network
-emptyNetwork = record { tolerance = 6; closed = false; buses = []; sources = [] }
+emptyNetwork = emptyOf 6
 
 unfoldable pub run : List Call → Network
 run cs = runFrom emptyNetwork cs

@@ -1,5 +1,5 @@
 -- The grounds on which a call is refused, in the order in which document 01 has them tried, and the network after each call.
-use mathlib.Core.Bool.{Bool, true, false, not, cond, _&&_}
+use mathlib.Core.Bool.{Bool, true, false, not, cond, _&&_, _||_}
 use mathlib.Core.List.{List, [], _∷_, _++_}
 use Prim.Native.Nat.{ℕ}
 use lib.Dec.{leb, ltb, eqb}
@@ -24,28 +24,31 @@ first (g ∷ gs) = cond (g .ok) (first gs) (g .number)
 
 -- ---- starting
 -- "1 tolerance not 6 or 10 (an empty open study of tolerance 6 comes back)."
-unfoldable pub startNumber : ℕ → ℕ
+abbrev pub startNumber : ℕ → ℕ
 startNumber t = first (on (toleranceOk t) 1 ∷ [])
 
-unfoldable pub startNetwork : ℕ → Network
-startNetwork t = record { tolerance = cond (toleranceOk t) t 6; closed = false; buses = []; sources = [] }
+abbrev pub emptyOf : ℕ → Network
+emptyOf t = record { tolerance = t; closed = false; buses = []; sources = [] }
+
+abbrev pub startNetwork : ℕ → Network
+startNetwork t = emptyOf (cond (toleranceOk t) t 6)
 
 -- ---- adding a bus
 -- "3 parent.": "Bus 0 has parent 0"; "Any other bus names a parent with a smaller number."
-unfoldable pub parentOk : ℕ → Bus → Bool
-parentOk i b = cond (eqb i 0) (eqb (b .parent) 0) (ltb (b .parent) i)
+abbrev pub parentOk : ℕ → Bus → Bool
+parentOk i b = (eqb i 0 && eqb (b .parent) 0) || ltb (b .parent) i
 
 -- "4 branch kind.": 0 at bus 0, a line or a transformer at any other
-unfoldable pub kindOk : ℕ → Bus → Bool
-kindOk i b = cond (eqb i 0) (eqb (b .kind) 0) (within (b .kind) 1 2)
+abbrev pub kindOk : ℕ → Bus → Bool
+kindOk i b = (eqb i 0 && eqb (b .kind) 0) || (ltb 0 i && within (b .kind) 1 2)
 
 -- "6 line between unequal voltages."
-unfoldable pub lineVoltsOk : Bus → Bus → Bool
-lineVoltsOk parent b = cond (eqb (b .kind) 1) (eqb (parent .volts) (b .volts)) true
+abbrev pub lineVoltsOk : Bus → Bus → Bool
+lineVoltsOk parent b = not (eqb (b .kind) 1) || eqb (parent .volts) (b .volts)
 
 -- "7 transformer rated voltage.": the first on the parent's side, the second on the bus's own
-unfoldable pub transformerVoltsOk : Bus → Bus → Bool
-transformerVoltsOk parent b = cond (eqb (b .kind) 2) (ratedOk (b .f1) (parent .volts) && ratedOk (b .f2) (b .volts)) true
+abbrev pub transformerVoltsOk : Bus → Bus → Bool
+transformerVoltsOk parent b = not (eqb (b .kind) 2) || (ratedOk (b .f1) (parent .volts) && ratedOk (b .f2) (b .volts))
 
 -- "8 too deep: more than 18 branches, or more than 4 transformers."
 unfoldable pub depthOk : List Bus → ℕ → Bool
@@ -67,13 +70,15 @@ busGrounds l i =
 unfoldable pub busRecordNumber : List Bus → ℕ → ℕ
 busRecordNumber l i = first (busGrounds l i)
 
--- "State grounds are tried first, then rising numbers": 21 and 23, and then the record as the next bus
-unfoldable pub busNumber : Network → Bus → ℕ
-busNumber n b =
-    first
-    (on (not (n .closed)) 21
+-- "State grounds are tried first, then rising numbers": 21 and 23, and then those of the record as the next bus
+abbrev pub addBusGrounds : Network → Bus → List Ground
+addBusGrounds n b =
+    on (not (n .closed)) 21
     ∷ on (ltb (length (n .buses)) maxBuses) 23
-    ∷ busGrounds (n .buses ++ (b ∷ [])) (length (n .buses)))
+    ∷ busGrounds (n .buses ++ (b ∷ [])) (length (n .buses))
+
+unfoldable pub busNumber : Network → Bus → ℕ
+busNumber n b = first (addBusGrounds n b)
 
 -- "a refused call adds nothing to it"
 unfoldable pub afterBus : Network → Bus → Network
@@ -84,12 +89,12 @@ afterBus n b =
 
 -- ---- adding a source
 -- "13 machine rated voltage.", of a generator or a motor
-unfoldable pub machineVoltsOk : Bus → Source → Bool
-machineVoltsOk b p = cond (within (p .kind) 2 3) (ratedOk (p .f1) (b .volts)) true
+abbrev pub machineVoltsOk : Bus → Source → Bool
+machineVoltsOk b p = not (within (p .kind) 2 3) || ratedOk (p .f1) (b .volts)
 
 -- "14 first source not a feeder, feeder elsewhere than bus 0, or a second one."
-unfoldable pub feederPlaceOk : ℕ → Source → Bool
-feederPlaceOk j p = cond (eqb j 0) (eqb (p .kind) 1 && eqb (p .bus) 0) (not (eqb (p .kind) 1))
+abbrev pub feederPlaceOk : ℕ → Source → Bool
+feederPlaceOk j p = (eqb j 0 && eqb (p .kind) 1 && eqb (p .bus) 0) || (ltb 0 j && not (eqb (p .kind) 1))
 
 -- the grounds in the input for the record of the source at place j over a list of buses
 abbrev pub sourceGrounds : List Bus → ℕ → Source → List Ground
@@ -104,12 +109,14 @@ sourceGrounds l j p =
 unfoldable pub sourceRecordNumber : List Bus → ℕ → Source → ℕ
 sourceRecordNumber l j p = first (sourceGrounds l j p)
 
-unfoldable pub sourceNumber : Network → Source → ℕ
-sourceNumber n p =
-    first
-    (on (not (n .closed)) 21
+abbrev pub addSourceGrounds : Network → Source → List Ground
+addSourceGrounds n p =
+    on (not (n .closed)) 21
     ∷ on (ltb (length (n .sources)) maxSources) 24
-    ∷ sourceGrounds (n .buses) (length (n .sources)) p)
+    ∷ sourceGrounds (n .buses) (length (n .sources)) p
+
+unfoldable pub sourceNumber : Network → Source → ℕ
+sourceNumber n p = first (addSourceGrounds n p)
 
 unfoldable pub afterSource : Network → Source → Network
 afterSource n p =
@@ -119,8 +126,11 @@ afterSource n p =
 
 -- ---- closing
 -- "21 study closed already (adding or closing)."; "25 closing without a source"
+abbrev pub closeGrounds : Network → List Ground
+closeGrounds n = on (not (n .closed)) 21 ∷ on (ltb 0 (length (n .sources))) 25 ∷ []
+
 unfoldable pub closeNumber : Network → ℕ
-closeNumber n = first (on (not (n .closed)) 21 ∷ on (ltb 0 (length (n .sources))) 25 ∷ [])
+closeNumber n = first (closeGrounds n)
 
 unfoldable pub afterClose : Network → Network
 afterClose n =

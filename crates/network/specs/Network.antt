@@ -73,8 +73,8 @@ anyBranch b = 1
 abbrev pub ifTransformer : Bus → ℕ
 ifTransformer b = cond (eqb (b .kind) 2) 1 0
 
-unfoldable pub depthOf : List Bus → ℕ → ℕ
+abbrev pub depthOf : List Bus → ℕ → ℕ
 depthOf l i = way anyBranch l i
 
-unfoldable pub transformersOf : List Bus → ℕ → ℕ
+abbrev pub transformersOf : List Bus → ℕ → ℕ
 transformersOf l i = way ifTransformer l i
