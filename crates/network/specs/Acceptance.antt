@@ -1,18 +1,17 @@
 -- Laws of the grounds: what an accepted call has passed, and that the number of a record does not depend on later records.
-use mathlib.Core.Path.{_≡_, refl, sym, _∙_}
-use mathlib.Core.Bool.{Bool, true, false, not, cond, _&&_}
+use mathlib.Core.Path.{_≡_, refl}
+use mathlib.Core.Bool.{Bool, true, false, cond, _&&_}
 use mathlib.Core.List.{List, [], _∷_, _++_}
-use mathlib.Core.Logic.{⊎-elim}
 use Prim.Native.Nat.{ℕ, _≤_, _<_}
 use native.Mathlib.Omega.{arith}
-use borrow.Author.Tests.{ltb-true, eqb-true, lt-ltb, eq-eqb, ne-eqb}
-use lib.Dec.{leb, ltb, eqb}
+use borrow.Author.Tests.{ltb-true, eqb-true, eqb-false, lt-ltb, eq-eqb, ne-eqb}
+use lib.Dec.{ltb, eqb}
 use lib.ListN.{length}
 use Rattle.network.specs.declared.Bus.{Bus}
 use Rattle.network.specs.declared.Source.{Source}
-use Rattle.network.specs.Network.{Network, maxBuses, maxSources, maxBranches, maxTransformers, busAt, anyBranch, ifTransformer, depthOf, transformersOf}
-use Rattle.network.specs.Grounds.{Ground, first, parentOk, depthOk, busRecordNumber, addBusGrounds, busNumber, sourceRecordNumber, addSourceGrounds, sourceNumber}
-use Rattle.network.specs.Tests.{by-test, both-true, one-true, never}
+use Rattle.network.specs.Network.{Network, maxBuses, maxSources, busAt, anyBranch, ifTransformer}
+use Rattle.network.specs.Grounds.{Ground, first, parentOk, depthOk, busGrounds, busRecordNumber, addBusGrounds, busNumber, sourceGrounds, sourceRecordNumber, addSourceGrounds, sourceNumber, closeGrounds, closeNumber}
+use Rattle.network.specs.Tests.{by-test, both-true, at-zero, past-zero}
 use Rattle.network.specs.Ways.{Same, way-same}
 
 -- ---- a list of grounds whose numbers are not 0 gives 0 exactly where every test is passed
@@ -40,10 +39,9 @@ accepted (g ∷ gs) p = rw (p .0) (accepted gs (p .1))
 -- an accepted parent is at most the bus itself
 pub parent-le : (i : ℕ) (b : Bus) → parentOk i b ≡ true → b .parent ≤ i
 parent-le i b e =
-    ⊎-elim
-    (λ h. omega (arith, eqb-true (b .parent) 0 (both-true (eqb i 0) (eqb (b .parent) 0) h .1)))
-    (λ h. omega (arith, ltb-true (b .parent) i h))
-    (one-true (eqb i 0 && eqb (b .parent) 0) (ltb (b .parent) i) e)
+    by-test (eqb i 0)
+    (λ t. omega (arith, eqb-true (b .parent) 0 (at-zero i (eqb (b .parent) 0) (ltb (b .parent) i) e (eqb-true i 0 t))))
+    (λ t. omega (arith, ltb-true (b .parent) i (past-zero i (eqb (b .parent) 0) (ltb (b .parent) i) e (omega (arith, eqb-false i 0 t)))))
 
 depth-ok-same : (l m : List Bus) (i : ℕ) → Same l m i → depthOk l i ≡ depthOk m i
 unfolding depthOk
@@ -66,6 +64,12 @@ pub bus-room : (n : Network) (b : Bus) → busNumber n b ≡ 0 → length (n .bu
 unfolding busNumber
 bus-room n b e = ltb-true (length (n .buses)) maxBuses (passed (addBusGrounds n b) refl e .1 .0)
 
+-- an accepted record passes the grounds in the input as the next bus
+pub bus-accepted : (n : Network) (b : Bus) → busNumber n b ≡ 0 → busRecordNumber (n .buses ++ (b ∷ [])) (length (n .buses)) ≡ 0
+unfolding busNumber busRecordNumber
+bus-accepted n b e =
+    accepted (busGrounds (n .buses ++ (b ∷ [])) (length (n .buses))) (passed (addBusGrounds n b) refl e .1 .1)
+
 -- ---- sources
 pub source-number-open : (n : Network) (p : Source) → n .closed ≡ false → length (n .sources) < maxSources → sourceNumber n p ≡ sourceRecordNumber (n .buses) (length (n .sources)) p
 unfolding sourceNumber sourceRecordNumber
@@ -74,6 +78,16 @@ source-number-open n p o h = rw (o, lt-ltb (length (n .sources)) maxSources h)
 pub source-room : (n : Network) (p : Source) → sourceNumber n p ≡ 0 → length (n .sources) < maxSources
 unfolding sourceNumber
 source-room n p e = ltb-true (length (n .sources)) maxSources (passed (addSourceGrounds n p) refl e .1 .0)
+
+pub source-accepted : (n : Network) (p : Source) → sourceNumber n p ≡ 0 → sourceRecordNumber (n .buses) (length (n .sources)) p ≡ 0
+unfolding sourceNumber sourceRecordNumber
+source-accepted n p e =
+    accepted (sourceGrounds (n .buses) (length (n .sources)) p) (passed (addSourceGrounds n p) refl e .1 .1)
+
+-- ---- closing
+pub close-fed : (n : Network) → closeNumber n ≡ 0 → 0 < length (n .sources)
+unfolding closeNumber
+close-fed n e = ltb-true 0 (length (n .sources)) (passed (closeGrounds n) refl e .1 .0)
 
 -- ---- the network after a call: as it was where the number is not 0
 pub refused : {A : Type 0} (k : ℕ) (x y : A) → (k ≡ 0 → ⊥) → cond (eqb k 0) x y ≡ y

@@ -22,6 +22,10 @@ abbrev pub first : List Ground → ℕ
 first [] = 0
 first (g ∷ gs) = cond (g .ok) (first gs) (g .number)
 
+-- one test at place 0, another at every other place
+abbrev pub atZero : ℕ → Bool → Bool → Bool
+atZero i a b = (eqb i 0 && a) || (ltb 0 i && b)
+
 -- ---- starting
 -- "1 tolerance not 6 or 10 (an empty open study of tolerance 6 comes back)."
 abbrev pub startNumber : ℕ → ℕ
@@ -36,11 +40,11 @@ startNetwork t = emptyOf (cond (toleranceOk t) t 6)
 -- ---- adding a bus
 -- "3 parent.": "Bus 0 has parent 0"; "Any other bus names a parent with a smaller number."
 abbrev pub parentOk : ℕ → Bus → Bool
-parentOk i b = (eqb i 0 && eqb (b .parent) 0) || ltb (b .parent) i
+parentOk i b = atZero i (eqb (b .parent) 0) (ltb (b .parent) i)
 
 -- "4 branch kind.": 0 at bus 0, a line or a transformer at any other
 abbrev pub kindOk : ℕ → Bus → Bool
-kindOk i b = (eqb i 0 && eqb (b .kind) 0) || (ltb 0 i && within (b .kind) 1 2)
+kindOk i b = atZero i (eqb (b .kind) 0) (within (b .kind) 1 2)
 
 -- "6 line between unequal voltages."
 abbrev pub lineVoltsOk : Bus → Bus → Bool
@@ -94,7 +98,7 @@ machineVoltsOk b p = not (within (p .kind) 2 3) || ratedOk (p .f1) (b .volts)
 
 -- "14 first source not a feeder, feeder elsewhere than bus 0, or a second one."
 abbrev pub feederPlaceOk : ℕ → Source → Bool
-feederPlaceOk j p = (eqb j 0 && eqb (p .kind) 1 && eqb (p .bus) 0) || (ltb 0 j && not (eqb (p .kind) 1))
+feederPlaceOk j p = atZero j (eqb (p .kind) 1 && eqb (p .bus) 0) (not (eqb (p .kind) 1))
 
 -- the grounds in the input for the record of the source at place j over a list of buses
 abbrev pub sourceGrounds : List Bus → ℕ → Source → List Ground

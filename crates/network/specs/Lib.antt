@@ -5,3 +5,5 @@ pub mod Calls
 pub mod Tests
 pub mod Ways
 pub mod Acceptance
+pub mod Rebuilt
+pub mod Facts

@@ -1,6 +1,6 @@
 -- The network of a study: its tolerance, whether it is closed, and the lists of its records, each kind in order.
 use mathlib.Core.Bool.{Bool, cond}
-use mathlib.Core.List.{List, []}
+use mathlib.Core.List.{List}
 use Prim.Native.Nat.{ℕ, zero, suc, _+_}
 use lib.Dec.{ltb, eqb}
 use lib.ListN.{take, getD}

@@ -1,6 +1,6 @@
 ghost use mathlib.Core.Path.{_≡_};
 ghost use Prim.Native.Nat.{_<_};
-ghost use Rattle.network.specs.Records.{voltsOk, ratingOk, noBranchOk, lineOk, transformerOk, branchOk};
+ghost use Rattle.network.specs.Records.{all, voltsOk, ratingOk, noBranch, line, transformer, branchOk};
 ghost use Rattle.network.specs.Network.{maxBuses, busAt, ifTransformer, depthOf, transformersOf};
 ghost use Rattle.network.specs.Grounds.{parentOk, kindOk, lineVoltsOk, transformerVoltsOk, depthOk, busRecordNumber};
 use crate::BUSES;
@@ -23,7 +23,7 @@ fn volts_ok(b: Bus) -> bool
 fn parent_ok(i: usize, b: Bus) -> bool
     ensures { λ r. ⌜ r ≡ parentOk i b ⌝ }
 {
-    ((i == 0) & (b.parent == 0)) | ((b.parent as usize) < i)
+    ((i == 0) & (b.parent == 0)) | ((0 < i) & ((b.parent as usize) < i))
 }
 
 fn kind_ok(i: usize, b: Bus) -> bool
@@ -33,13 +33,13 @@ fn kind_ok(i: usize, b: Bus) -> bool
 }
 
 fn no_branch_ok(b: Bus) -> bool
-    ensures { λ r. ⌜ r ≡ noBranchOk b ⌝ }
+    ensures { λ r. ⌜ r ≡ all (noBranch b) ⌝ }
 {
     (b.f1 == 0) & (b.f2 == 0) & (b.f3 == 0) & (b.f4 == 0) & (b.f5 == 0)
 }
 
 fn line_ok(b: Bus) -> bool
-    ensures { λ r. ⌜ r ≡ lineOk b ⌝ }
+    ensures { λ r. ⌜ r ≡ all (line b) ⌝ }
 {
     (b.f1 <= 100000)
         & (b.f2 <= 100000)
@@ -50,7 +50,7 @@ fn line_ok(b: Bus) -> bool
 }
 
 fn transformer_ok(b: Bus) -> bool
-    ensures { λ r. ⌜ r ≡ transformerOk b ⌝ }
+    ensures { λ r. ⌜ r ≡ all (transformer b) ⌝ }
 {
     ((10 <= b.f3) & (b.f3 <= 1000000)) & ((100 <= b.f4) & (b.f4 <= 30000)) & (b.f5 < b.f4)
 }

@@ -1,7 +1,7 @@
 // A study of a radial network: started with a voltage tolerance, given bus records and source records one by one, closed.
 // Every call is total: it carries the number of the ground on which it was refused, 0 where it was accepted.
 ghost use mathlib.Core.Path.{_≡_};
-ghost use mathlib.Core.Bool.{Bool, true, false};
+ghost use mathlib.Core.Bool.{true, false};
 ghost use lib.ListN.{length};
 ghost use Rattle.network.specs.Network.{blank, blankSource, network, busAt, sourceAt};
 ghost use Rattle.network.specs.Grounds.{emptyOf, startNumber, startNetwork, busNumber, afterBus, sourceNumber, afterSource, closeNumber, afterClose};

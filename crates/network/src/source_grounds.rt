@@ -1,6 +1,5 @@
 ghost use mathlib.Core.Path.{_≡_};
-ghost use lib.ListN.{length};
-ghost use Rattle.network.specs.Records.{within, feederOk, generatorOk, motorOk, converterOk, fieldsOk};
+ghost use Rattle.network.specs.Records.{within, all, feeder, generator, motor, converter, fieldsOk};
 ghost use Rattle.network.specs.Network.{network};
 ghost use Rattle.network.specs.Grounds.{machineVoltsOk, feederPlaceOk, sourceRecordNumber};
 use crate::Bus;
@@ -18,13 +17,13 @@ fn kind_ok(p: Source) -> bool
 }
 
 fn feeder_ok(p: Source) -> bool
-    ensures { λ r. ⌜ r ≡ feederOk p ⌝ }
+    ensures { λ r. ⌜ r ≡ all (feeder p) ⌝ }
 {
     ((1000 <= p.f1) & (p.f1 <= 100000000)) & (p.f2 <= 200) & (p.f3 == 0) & (p.f4 == 0) & (p.f5 == 0)
 }
 
 fn generator_ok(p: Source) -> bool
-    ensures { λ r. ⌜ r ≡ generatorOk p ⌝ }
+    ensures { λ r. ⌜ r ≡ all (generator p) ⌝ }
 {
     ((10 <= p.f2) & (p.f2 <= 1000000))
         & ((1000 <= p.f3) & (p.f3 <= 100000))
@@ -33,13 +32,13 @@ fn generator_ok(p: Source) -> bool
 }
 
 fn motor_ok(p: Source) -> bool
-    ensures { λ r. ⌜ r ≡ motorOk p ⌝ }
+    ensures { λ r. ⌜ r ≡ all (motor p) ⌝ }
 {
     ((1 <= p.f2) & (p.f2 <= 100000)) & ((10 <= p.f3) & (p.f3 <= 100)) & (p.f4 <= 200) & (p.f5 == 0)
 }
 
 fn converter_ok(p: Source) -> bool
-    ensures { λ r. ⌜ r ≡ converterOk p ⌝ }
+    ensures { λ r. ⌜ r ≡ all (converter p) ⌝ }
 {
     ((1 <= p.f1) & (p.f1 <= 100000))
         & ((100 <= p.f2) & (p.f2 <= 300))
@@ -69,7 +68,7 @@ fn machine_volts_ok(b: Bus, p: Source) -> bool
 fn feeder_place_ok(j: usize, p: Source) -> bool
     ensures { λ r. ⌜ r ≡ feederPlaceOk j p ⌝ }
 {
-    ((j == 0) & (p.kind == 1) & (p.bus == 0)) | ((0 < j) & !(p.kind == 1))
+    ((j == 0) & ((p.kind == 1) & (p.bus == 0))) | ((0 < j) & !(p.kind == 1))
 }
 
 // The ground in the input on which the record of the source at place j is refused, 0 where it is accepted.

@@ -3,7 +3,7 @@ use Prim.Native.Nat.{_<_}
 use native.Mathlib.Omega.{arith}
 use lib.ListN.{length}
 use Rattle.network.specs.Network.{network, maxSources}
-use Rattle.network.specs.Grounds.{sourceNumber, afterSource}
+use Rattle.network.specs.Grounds.{afterSource}
 use Rattle.network.specs.Acceptance.{source-room, refused, granted}
 use Rattle.network.proofs.Lists.{length-mapped, below-count, appended}
 use borrow.Author.Needs.{needs}

@@ -3,7 +3,7 @@ use mathlib.Core.List.{[], _∷_, _++_}
 use native.Mathlib.Omega.{arith}
 use lib.ListN.{length, take, set}
 use Rattle.network.specs.Network.{network, maxBuses, blank}
-use Rattle.network.specs.Grounds.{busRecordNumber, busNumber}
+use Rattle.network.specs.Grounds.{busNumber}
 use Rattle.network.specs.Acceptance.{bus-record-same, bus-number-open}
 use Rattle.network.proofs.Lists.{length-mapped, count-below, count-full, appended-same}
 use borrow.Author.Needs.{needs}

@@ -1,4 +1,4 @@
-use mathlib.Core.Path.{_≡_, sym, _∙_}
+use mathlib.Core.Path.{sym}
 use Rattle.network.specs.Network.{busAt, anyBranch, ifTransformer}
 use Rattle.network.specs.Ways.{way-more, way-none, depth-small, transformers-small, if-transformer-small}
 use borrow.Author.Needs.{needs}
