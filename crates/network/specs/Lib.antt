@@ -1,0 +1,9 @@
+pub mod Records
+pub mod Network
+pub mod Grounds
+pub mod Calls
+pub mod Tests
+pub mod Ways
+pub mod Acceptance
+pub mod Rebuilt
+pub mod Facts

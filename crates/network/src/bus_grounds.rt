@@ -1,0 +1,152 @@
+ghost use mathlib.Core.Path.{_≡_};
+ghost use Prim.Native.Nat.{_<_};
+ghost use Rattle.network.specs.Records.{all, voltsOk, ratingOk, noBranch, line, transformer, branchOk};
+ghost use Rattle.network.specs.Network.{maxBuses, busAt, ifTransformer, depthOf, transformersOf};
+ghost use Rattle.network.specs.Grounds.{parentOk, kindOk, lineVoltsOk, transformerVoltsOk, depthOk, busRecordNumber};
+use crate::BUSES;
+use crate::Bus;
+use crate::blank_bus;
+use crate::checks::rated_ok;
+use crate::checks::unless;
+
+// The branches that may lead from bus 0 to a bus, and the transformers among them.
+const BRANCHES: usize = 18;
+
+const TRANSFORMERS: usize = 4;
+
+fn volts_ok(b: Bus) -> bool
+    ensures { λ r. ⌜ r ≡ voltsOk b ⌝ }
+{
+    (100 <= b.volts) & (b.volts <= 420000)
+}
+
+fn parent_ok(i: usize, b: Bus) -> bool
+    ensures { λ r. ⌜ r ≡ parentOk i b ⌝ }
+{
+    ((i == 0) & (b.parent == 0)) | ((0 < i) & ((b.parent as usize) < i))
+}
+
+fn kind_ok(i: usize, b: Bus) -> bool
+    ensures { λ r. ⌜ r ≡ kindOk i b ⌝ }
+{
+    ((i == 0) & (b.kind == 0)) | ((0 < i) & ((1 <= b.kind) & (b.kind <= 2)))
+}
+
+fn no_branch_ok(b: Bus) -> bool
+    ensures { λ r. ⌜ r ≡ all (noBranch b) ⌝ }
+{
+    (b.f1 == 0) & (b.f2 == 0) & (b.f3 == 0) & (b.f4 == 0) & (b.f5 == 0)
+}
+
+fn line_ok(b: Bus) -> bool
+    ensures { λ r. ⌜ r ≡ all (line b) ⌝ }
+{
+    (b.f1 <= 100000)
+        & (b.f2 <= 100000)
+        & !((b.f1 == 0) & (b.f2 == 0))
+        & ((1 <= b.f3) & (b.f3 <= 200000))
+        & ((1 <= b.f4) & (b.f4 <= 8))
+        & (b.f5 == 0)
+}
+
+fn transformer_ok(b: Bus) -> bool
+    ensures { λ r. ⌜ r ≡ all (transformer b) ⌝ }
+{
+    ((10 <= b.f3) & (b.f3 <= 1000000)) & ((100 <= b.f4) & (b.f4 <= 30000)) & (b.f5 < b.f4)
+}
+
+fn branch_ok(b: Bus) -> bool
+    ensures { λ r. ⌜ r ≡ branchOk b ⌝ }
+{
+    let kind = b.kind;
+    match kind {
+        1 => line_ok(b),
+        2 => transformer_ok(b),
+        _ => no_branch_ok(b),
+    }
+}
+
+fn line_volts_ok(parent: Bus, b: Bus) -> bool
+    ensures { λ r. ⌜ r ≡ lineVoltsOk parent b ⌝ }
+{
+    !(b.kind == 1) | (parent.volts == b.volts)
+}
+
+fn transformer_volts_ok(parent: Bus, b: Bus) -> bool
+    ensures { λ r. ⌜ r ≡ transformerVoltsOk parent b ⌝ }
+{
+    !(b.kind == 2) | (rated_ok(b.f1, parent.volts) & rated_ok(b.f2, b.volts))
+}
+
+fn rating_ok(b: Bus) -> bool
+    ensures { λ r. ⌜ r ≡ ratingOk b ⌝ }
+{
+    ((1 <= b.rating) & (b.rating <= 1000000)) & ((1 <= b.peak_rating) & (b.peak_rating <= 3000000))
+}
+
+// The branches, and the transformers among them, on the way from a bus to bus 0.
+struct Way {
+    branches: usize,
+    transformers: usize,
+}
+
+// 1 for a bus that hangs on a transformer, else 0.
+fn if_transformer(b: Bus) -> usize
+    ensures { λ r. ⌜ r ≡ ifTransformer b ⌝ }
+{
+    if b.kind == 2 { 1 } else { 0 }
+}
+
+// The way from bus i to bus 0, followed while numbers fall.
+fn way_of(buses: [Bus; BUSES], i: usize) -> Way
+    requires { ⌜ i < maxBuses ⌝ }
+    ensures branches { λ r. ⌜ r .branches ≡ depthOf buses i ⌝ }
+    ensures transformers { λ r. ⌜ r .transformers ≡ transformersOf buses i ⌝ }
+{
+    let b = buses[i];
+    let parent = b.parent as usize;
+    if parent < i {
+        let above = way_of(buses, parent);
+        Way {
+            branches: above.branches + 1,
+            transformers: above.transformers + if_transformer(b),
+        }
+    } else {
+        Way {
+            branches: 0,
+            transformers: 0,
+        }
+    }
+}
+
+fn depth_ok(buses: [Bus; BUSES], i: usize) -> bool
+    requires { ⌜ i < maxBuses ⌝ }
+    ensures { λ r. ⌜ r ≡ depthOk buses i ⌝ }
+{
+    let w = way_of(buses, i);
+    (w.branches <= BRANCHES) & (w.transformers <= TRANSFORMERS)
+}
+
+// A record of the array, blank past its end.
+fn record_at(buses: [Bus; BUSES], i: usize) -> Bus
+    ensures { λ r. ⌜ r ≡ busAt buses i ⌝ }
+{
+    if i < BUSES { buses[i] } else { blank_bus() }
+}
+
+// The ground in the input on which the record of bus i is refused, 0 where it is accepted.
+pub fn bus_record_number(buses: [Bus; BUSES], i: usize) -> u32
+    requires { ⌜ i < maxBuses ⌝ }
+    ensures { λ r. ⌜ r ≡ busRecordNumber buses i ⌝ }
+{
+    let b = buses[i];
+    let parent = record_at(buses, b.parent as usize);
+    let g9 = unless(rating_ok(b), 9, 0);
+    let g8 = unless(depth_ok(buses, i), 8, g9);
+    let g7 = unless(transformer_volts_ok(parent, b), 7, g8);
+    let g6 = unless(line_volts_ok(parent, b), 6, g7);
+    let g5 = unless(branch_ok(b), 5, g6);
+    let g4 = unless(kind_ok(i, b), 4, g5);
+    let g3 = unless(parent_ok(i, b), 3, g4);
+    unless(volts_ok(b), 2, g3)
+}
