@@ -102,15 +102,21 @@ pub carried-same : {A : Type 0} (o : Ops A) (c c′ : ℕ → A) (G H : Grid) �
 unfolding toRoot fromRoot
 carried-same {A} o c c′ G H s h b l = from-same b (gathered o c G (G .count)) l ∙ ap (fromRoot o H b) (all (G .count) (le-refl (G .count)) ∙ ap (gathered o c′ H) (s .count))
   where
+    up-same : (j : ℕ) (carry : A → A) → 0 < j → j < G .count → _≡_ {A = A → A} (λ y. carry (upward o G j y)) (λ y. carry (upward o H j y))
+    up-same j carry z m = ap₂ {C = A → A} (λ (p q : ℕ) y. carry (o .scale p q y)) (s .below j z m) (s .above j z m)
+
+    down-same : (j : ℕ) (y : A) → 0 < j → j < G .count → downward o G j y ≡ downward o H j y
+    down-same j y z m = rw (s .above j z m, s .below j z m, downward)
+
     to-same : (i : ℕ) (x : A) → i < G .count → toRoot o G i x ≡ toRoot o H i x
     to-same i x l =
         ap (λ (f : A → A). f x)
         (toward-same (parentOf G) (parentOf H) (λ j carry y. carry (upward o G j y)) (λ j carry y. carry (upward o H j y)) (λ y. y) (G .count) (s .parent)
-        (λ j k z m. ap₂ {C = A → A} (λ (p q : ℕ) y. k (o .scale p q y)) (s .below j z m) (s .above j z m)) i i l)
+        up-same i i l)
 
     from-same : (i : ℕ) (x : A) → i < G .count → fromRoot o G i x ≡ fromRoot o H i x
     from-same i x l =
-        toward-same (parentOf G) (parentOf H) (downward o G) (downward o H) x (G .count) (s .parent) (λ j y z m. ap₂ (λ (p q : ℕ). o .scale p q y) (s .above j z m) (s .below j z m)) i i l
+        toward-same (parentOf G) (parentOf H) (downward o G) (downward o H) x (G .count) (s .parent) down-same i i l
 
     all : (n : ℕ) → n ≤ G .count → gathered o c G n ≡ gathered o c′ H n
     all zero m = refl
