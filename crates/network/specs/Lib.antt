@@ -7,3 +7,8 @@ pub mod Ways
 pub mod Acceptance
 pub mod Rebuilt
 pub mod Facts
+pub mod Grid
+pub mod Demand
+pub mod Rounded
+pub mod Verdict
+pub mod Query

@@ -11,6 +11,8 @@ mod checks;
 mod source_grounds;
 
 use bus_grounds::bus_record_number;
+use enclosure::amperes::Peak;
+use enclosure::amperes::Rms;
 use source_grounds::source_record_number;
 
 // The buses and the sources that a study has room for.
@@ -57,6 +59,30 @@ pub struct Study {
 pub struct Answer {
     pub number: u32,
     pub study: Study,
+}
+
+// What a bus gets, in amperes: bounds of the machines' and of the converters' current, and their peaks.
+pub struct Amperes {
+    pub lower: Rms,
+    pub upper: Rms,
+    pub converters_lower: Rms,
+    pub converters_upper: Rms,
+    pub peak: Peak,
+    pub converters_peak: Peak,
+}
+
+// A bus against its ratings: within by a margin, over by an excess, or too close to tell.
+pub enum Verdict {
+    Within(f64),
+    Over(f64),
+    Close,
+}
+
+// What a query gives: the number of its ground, the six amperes and the verdict.
+pub struct Found {
+    pub number: u32,
+    pub amperes: Amperes,
+    pub verdict: Verdict,
 }
 
 fn blank_bus() -> Bus
