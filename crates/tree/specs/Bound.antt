@@ -41,7 +41,7 @@ most-turned Q P x h =
     halve : 2 * ((turned x .re + turned x .im) * Q) ≤ 2 * (P * turned x .den) → AtMost Q P (turned x)
     halve g = omega arith
 
-most-inverse : (Q P : ℕ) (x : Point) → AtLeast Q P x → AtMost Q P (inverse x)
+pub most-inverse : (Q P : ℕ) (x : Point) → AtLeast Q P x → AtMost Q P (inverse x)
 unfolding inverse
 most-inverse Q P x h = go (isNothing x)
   where
