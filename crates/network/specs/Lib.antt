@@ -13,3 +13,4 @@ pub mod Rounded
 pub mod Verdict
 pub mod Query
 pub mod Elements
+pub mod Ranges
