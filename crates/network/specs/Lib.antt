@@ -14,3 +14,4 @@ pub mod Verdict
 pub mod Query
 pub mod Elements
 pub mod Ranges
+pub mod Standing

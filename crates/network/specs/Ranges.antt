@@ -100,7 +100,7 @@ module _ {n : Network} (r : Rebuilt n) where
         (bus-kind r i l z)
 
     -- the branch's impedance: in range, and near its f64
-    branch-impedance : Impedance (branchOf (n .tolerance) (records.parentOf (n .buses) i) (busAt (n .buses) i))
+    pub branch-impedance : Impedance (branchOf (n .tolerance) (records.parentOf (n .buses) i) (busAt (n .buses) i))
     unfolding branchOf
     branch-impedance =
         ⊎-elim
@@ -112,7 +112,7 @@ module _ {n : Network} (r : Rebuilt n) where
         rw k (transformer-impedance (n .tolerance) _ _ _ _ _ (rated-least _ _ (u .0) (t .1 .least)) (rated-most _ _ (u .1) (t .1 .most)) (f .kVA) (f .kVA-most) (f .uk) (f .uk-most) (f .uR)))
         (bus-kind r i l z)
 
-    near-branch : Held 24 (branchOf (n .tolerance) (records.parentOf (n .buses) i) (busAt (n .buses) i)) (branchesBy n i)
+    pub near-branch : Held 24 (branchOf (n .tolerance) (records.parentOf (n .buses) i) (busAt (n .buses) i)) (branchesBy n i)
     unfolding branchOf branchBy
     near-branch =
         ⊎-elim
