@@ -7,3 +7,4 @@ pub mod Ways
 pub mod Acceptance
 pub mod Rebuilt
 pub mod Facts
+pub mod Reached

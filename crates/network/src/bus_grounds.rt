@@ -140,13 +140,17 @@ pub fn bus_record_number(buses: [Bus; BUSES], i: usize) -> u32
     ensures { λ r. ⌜ r ≡ busRecordNumber buses i ⌝ }
 {
     let b = buses[i];
-    let parent = record_at(buses, b.parent as usize);
-    let g9 = unless(rating_ok(b), 9, 0);
-    let g8 = unless(depth_ok(buses, i), 8, g9);
-    let g7 = unless(transformer_volts_ok(parent, b), 7, g8);
-    let g6 = unless(line_volts_ok(parent, b), 6, g7);
-    let g5 = unless(branch_ok(b), 5, g6);
-    let g4 = unless(kind_ok(i, b), 4, g5);
-    let g3 = unless(parent_ok(i, b), 3, g4);
-    unless(volts_ok(b), 2, g3)
+    let above = record_at(buses, b.parent as usize);
+    let volts = volts_ok(b);
+    let parent = parent_ok(i, b);
+    let kind = kind_ok(i, b);
+    let branch = branch_ok(b);
+    let line_volts = line_volts_ok(above, b);
+    let transformer_volts = transformer_volts_ok(above, b);
+    let depth = depth_ok(buses, i);
+    let rating = rating_ok(b);
+    let last = unless(depth, 8, unless(rating, 9, 0));
+    let rest = unless(line_volts, 6, unless(transformer_volts, 7, last));
+    let next = unless(kind, 4, unless(branch, 5, rest));
+    unless(volts, 2, unless(parent, 3, next))
 }

@@ -210,7 +210,7 @@ pub fn add_bus(s: Study, b: Bus) -> Answer
     next.buses[n] = b;
     next.bus_count = n + 1;
     Answer {
-        number: 0,
+        number,
         study: next,
     }
 }
@@ -244,7 +244,7 @@ pub fn add_source(s: Study, p: Source) -> Answer
     next.sources[n] = p;
     next.source_count = n + 1;
     Answer {
-        number: 0,
+        number,
         study: next,
     }
 }

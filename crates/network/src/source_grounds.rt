@@ -76,9 +76,12 @@ pub fn source_record_number(s: Study, j: usize, p: Source) -> u32
     ensures { λ r. ⌜ r ≡ sourceRecordNumber (network s .buses) j p ⌝ }
 {
     let bus = p.bus as usize;
-    let g14 = unless(feeder_place_ok(j, p), 14, 0);
-    let g13 = unless(machine_volts_ok(bus_at(s, bus), p), 13, g14);
-    let g12 = unless(fields_ok(p), 12, g13);
-    let g11 = unless(bus < bus_total(s), 11, g12);
-    unless(kind_ok(p), 10, g11)
+    let at = bus_at(s, bus);
+    let total = bus_total(s);
+    let kind = kind_ok(p);
+    let fields = fields_ok(p);
+    let volts = machine_volts_ok(at, p);
+    let place = feeder_place_ok(j, p);
+    let rest = unless(fields, 12, unless(volts, 13, unless(place, 14, 0)));
+    unless(kind, 10, unless(bus < total, 11, rest))
 }
