@@ -9,7 +9,7 @@ use lib.Dec.{leb, ltb, eqb}
 use lib.ListN.{length}
 use Rattle.network.specs.declared.Bus.{Bus}
 use Rattle.network.specs.declared.Source.{Source}
-use Rattle.network.specs.Records.{within, all, noBranch, line, transformer, branchOk, ratedOk, feeder, generator, motor, converter, fieldsOk}
+use Rattle.network.specs.Records.{within, all, noBranchTests, lineTests, transformerTests, branchOk, ratedOk, feederTests, generatorTests, motorTests, converterTests, fieldsOk}
 use Rattle.network.specs.Network.{Network, maxBuses, maxSources, maxBranches, maxTransformers, busAt, parentOf, sourceAt, depthOf, transformersOf}
 use Rattle.network.specs.Grounds.{depthOk, busGrounds, busRecordNumber, sourceGrounds, sourceRecordNumber}
 use Rattle.network.specs.Tests.{by-test, both-true, one-true, where-true, within-true, at-zero, past-zero, Every, all-true, not-both-zero}
@@ -27,9 +27,9 @@ pub record LineRanges (b : Bus) : Type 0 where
   pub circuits-most : b .f4 ≤ 8
   pub unused : b .f5 ≡ 0
 
-line-fields : (b : Bus) → all (line b) ≡ true → LineRanges b
+line-fields : (b : Bus) → all (lineTests b) ≡ true → LineRanges b
 line-fields b e =
-    let h = all-true (line b) e in
+    let h = all-true (lineTests b) e in
     let m = within-true (b .f3) 1 200000 (h .1 .1 .1 .0) in
     let c = within-true (b .f4) 1 8 (h .1 .1 .1 .1 .0) in
     record {
@@ -50,9 +50,9 @@ pub record TransformerRanges (b : Bus) : Type 0 where
   pub uk-most : b .f4 ≤ 30000
   pub uR : b .f5 < b .f4
 
-transformer-fields : (b : Bus) → all (transformer b) ≡ true → TransformerRanges b
+transformer-fields : (b : Bus) → all (transformerTests b) ≡ true → TransformerRanges b
 transformer-fields b e =
-    let h = all-true (transformer b) e in
+    let h = all-true (transformerTests b) e in
     let s = within-true (b .f3) 10 1000000 (h .0) in
     let u = within-true (b .f4) 100 30000 (h .1 .0) in
     record { kVA = s .0; kVA-most = s .1; uk = u .0; uk-most = u .1; uR = omega (arith, ltb-true) }
@@ -72,9 +72,9 @@ pub record FeederRanges (p : Source) : Type 0 where
   pub kVA-most : p .f1 ≤ 100000000
   pub ratio : p .f2 ≤ 200
 
-feeder-fields : (p : Source) → all (feeder p) ≡ true → FeederRanges p
+feeder-fields : (p : Source) → all (feederTests p) ≡ true → FeederRanges p
 feeder-fields p e =
-    let h = all-true (feeder p) e in
+    let h = all-true (feederTests p) e in
     let s = within-true (p .f1) 1000 100000000 (h .0) in
     record { kVA = s .0; kVA-most = s .1; ratio = omega (arith, leb-true) }
 
@@ -87,9 +87,9 @@ pub record GeneratorRanges (p : Source) : Type 0 where
   pub factor : 70 ≤ p .f5
   pub factor-most : p .f5 ≤ 100
 
-generator-fields : (p : Source) → all (generator p) ≡ true → GeneratorRanges p
+generator-fields : (p : Source) → all (generatorTests p) ≡ true → GeneratorRanges p
 generator-fields p e =
-    let h = all-true (generator p) e in
+    let h = all-true (generatorTests p) e in
     let s = within-true (p .f2) 10 1000000 (h .0) in
     let x = within-true (p .f3) 1000 100000 (h .1 .0) in
     let f = within-true (p .f5) 70 100 (h .1 .1 .1 .0) in
@@ -110,9 +110,9 @@ pub record MotorRanges (p : Source) : Type 0 where
   pub start-most : p .f3 ≤ 100
   pub ratio : p .f4 ≤ 200
 
-motor-fields : (p : Source) → all (motor p) ≡ true → MotorRanges p
+motor-fields : (p : Source) → all (motorTests p) ≡ true → MotorRanges p
 motor-fields p e =
-    let h = all-true (motor p) e in
+    let h = all-true (motorTests p) e in
     let s = within-true (p .f2) 1 100000 (h .0) in
     let a = within-true (p .f3) 10 100 (h .1 .0) in
     record { kVA = s .0; kVA-most = s .1; start = a .0; start-most = a .1; ratio = omega (arith, leb-true) }
@@ -123,9 +123,9 @@ pub record ConverterRanges (p : Source) : Type 0 where
   pub k : 100 ≤ p .f2
   pub k-most : p .f2 ≤ 300
 
-converter-fields : (p : Source) → all (converter p) ≡ true → ConverterRanges p
+converter-fields : (p : Source) → all (converterTests p) ≡ true → ConverterRanges p
 converter-fields p e =
-    let h = all-true (converter p) e in
+    let h = all-true (converterTests p) e in
     let c = within-true (p .f1) 1 100000 (h .0) in
     let k = within-true (p .f2) 100 300 (h .1 .0) in
     record { current = c .0; current-most = c .1; k = k .0; k-most = k .1 }
@@ -178,9 +178,9 @@ module _ {n : Network} (r : Rebuilt n) (i : ℕ) (h : i < length (n .buses)) whe
       (λ e. inr (omega (arith, eqb-false k 1 e)))
 
   -- the branch fields, by the kind
-  pub no-branch-fields : busAt (n .buses) i .kind ≡ 0 → Every (noBranch (busAt (n .buses) i))
+  pub no-branch-fields : busAt (n .buses) i .kind ≡ 0 → Every (noBranchTests (busAt (n .buses) i))
   unfolding branchOk
-  no-branch-fields k = all-true (noBranch (busAt (n .buses) i)) (rw k at (bus-tests .1 .1 .1 .0))
+  no-branch-fields k = all-true (noBranchTests (busAt (n .buses) i)) (rw k at (bus-tests .1 .1 .1 .0))
 
   pub line-ranges : busAt (n .buses) i .kind ≡ 1 → LineRanges (busAt (n .buses) i)
   unfolding branchOk

@@ -7,6 +7,7 @@ pub mod Ways
 pub mod Acceptance
 pub mod Rebuilt
 pub mod Facts
+pub mod Reached
 pub mod Grid
 pub mod Demand
 pub mod Rounded

@@ -1,3 +1,4 @@
+// What the grounds of both kinds of record share.
 ghost use mathlib.Core.Path.{_≡_};
 ghost use mathlib.Core.Bool.{cond};
 ghost use Rattle.network.specs.Records.{ratedOk};

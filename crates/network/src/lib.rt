@@ -15,9 +15,10 @@ use enclosure::amperes::Peak;
 use enclosure::amperes::Rms;
 use source_grounds::source_record_number;
 
-// The buses and the sources that a study has room for.
+// The buses that a study has room for.
 const BUSES: usize = 64;
 
+// The sources that a study has room for.
 const SOURCES: usize = 256;
 
 // A bus with the branch to its parent. Of a line (kind 1) the fields are r, x, metres, circuits and 0; of a transformer (kind 2)
@@ -227,16 +228,19 @@ pub fn add_bus(s: Study, b: Bus) -> Answer
     ensures kept { λ r. ⌜ ((r .number ≡ 0 → ⊥) → r .study ≡ s) ⌝ }
     ensures network { λ r. ⌜ network (r .study) ≡ afterBus (network s) b ⌝ }
 {
-    let number = bus_number(s, b);
-    if number != 0 {
-        return Answer { number, study: s };
+    let bus_ground = bus_number(s, b);
+    if bus_ground != 0 {
+        return Answer {
+            number: bus_ground,
+            study: s,
+        };
     }
     let n = s.bus_count;
     let mut next = s;
     next.buses[n] = b;
     next.bus_count = n + 1;
     Answer {
-        number: 0,
+        number: bus_ground,
         study: next,
     }
 }
@@ -261,16 +265,19 @@ pub fn add_source(s: Study, p: Source) -> Answer
     ensures kept { λ r. ⌜ ((r .number ≡ 0 → ⊥) → r .study ≡ s) ⌝ }
     ensures network { λ r. ⌜ network (r .study) ≡ afterSource (network s) p ⌝ }
 {
-    let number = source_number(s, p);
-    if number != 0 {
-        return Answer { number, study: s };
+    let source_ground = source_number(s, p);
+    if source_ground != 0 {
+        return Answer {
+            number: source_ground,
+            study: s,
+        };
     }
     let n = s.source_count;
     let mut next = s;
     next.sources[n] = p;
     next.source_count = n + 1;
     Answer {
-        number: 0,
+        number: source_ground,
         study: next,
     }
 }

@@ -41,9 +41,9 @@ returns-2 c =
     let a = c .before .before .args in
     let e = sym (c .before .bus-number .ensures) ∙ c .if1 .left in
     let h : length (a .s .buses) ≡ maxBuses = search (needs, length-mapped) in (
-      sym e,
+      c .before .bus-number .ensures,
       (
-        λ z. absurd (z refl),
+        λ z. absurd (z (c .if1 .left)),
         rw (appended maxBuses (a .s .«bus_count») (a .s .buses) h (a .b) (few c)) (sym (granted _ _ _ e)),
       ),
     )

@@ -41,9 +41,9 @@ returns-2 c =
     let a = c .before .before .args in
     let e = sym (c .before .source-number .ensures) ∙ c .if1 .left in
     let h : length (a .s .sources) ≡ maxSources = search (needs, length-mapped) in (
-      sym e,
+      c .before .source-number .ensures,
       (
-        λ z. absurd (z refl),
+        λ z. absurd (z (c .if1 .left)),
         rw (appended maxSources (a .s .«source_count») (a .s .sources) h (a .p) (few c)) (sym (granted _ _ _ e)),
       ),
     )

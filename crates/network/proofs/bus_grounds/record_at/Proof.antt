@@ -1,7 +1,7 @@
 use mathlib.Core.Path.{_≡_, sym, _∙_}
 use lib.ListN.{length, List·getD-eq-default}
 use native.Mathlib.Omega.{arith}
-use Rattle.network.specs.Network.{blank}
+use Rattle.network.specs.Network.{maxBuses, blank}
 use borrow.Author.Needs.{needs}
 use Rattle.network.proofs.bus_grounds.record_at.Statement.{statement}
 use Rattle.network.proofs.bus_grounds.record_at.Tie as tie
@@ -21,7 +21,7 @@ returns c = search needs
 returns-2 : tie.Need-returns-2
 returns-2 c =
     let a = c .before .before .args in
-    let h : length (a .t1) ≡ 64 = search needs in
+    let h : length (a .t1) ≡ maxBuses = search needs in
     c .blank-bus .ensures ∙ sym (List·getD-eq-default (a .t1) blank {n = a .i} (omega arith))
 
 pub record-at-spec : {M : Type 1} → statement M
