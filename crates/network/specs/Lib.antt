@@ -16,3 +16,4 @@ pub mod Query
 pub mod Elements
 pub mod Ranges
 pub mod Standing
+pub mod Claim
