@@ -17,3 +17,4 @@ pub mod Elements
 pub mod Ranges
 pub mod Standing
 pub mod Claim
+pub mod Same
