@@ -201,21 +201,24 @@ module _ {n : Network} (r : Rebuilt n) (source : 0 < length (n .sources)) (b : �
       proper : 0 < carried (gridOf n) b .den
       proper = carried-proper (gridOf n) (sound r .tree) (λ i z m. (sound r .volts i z m .0 .0, sound r .volts i z m .1 .0)) (amperes r .proper) b lb
 
+  pub figures-whole : Whole (amperesAt n b) (figuresAt n b)
+  figures-whole = record {
+    lower = refl;
+    upper = refl;
+    «converters_lower» = refl;
+    «converters_upper» = refl;
+    peak = refl;
+    «converters_peak» = refl;
+    lowers-small = omega (arith, machine-order, converter-order, machine-part .upper-few, converter-part .upper-few);
+    uppers-small = omega (arith, machine-part .upper-few, converter-part .upper-few);
+    peaks-small = omega (arith, machine-part .peak-few, converter-part .peak-few);
+  }
+
   -- THE FIGURES KEEP DEMAND 3
   pub demand : Demand n b (amperesAt n b)
   demand = record {
     figures = figuresAt n b;
-    whole = record {
-      lower = refl;
-      upper = refl;
-      «converters_lower» = refl;
-      «converters_upper» = refl;
-      peak = refl;
-      «converters_peak» = refl;
-      lowers-small = omega (arith, machine-order, converter-order, machine-part .upper-few, converter-part .upper-few);
-      uppers-small = omega (arith, machine-part .upper-few, converter-part .upper-few);
-      peaks-small = omega (arith, machine-part .peak-few, converter-part .peak-few);
-    };
+    whole = figures-whole;
     machines = machines-hold _ (voltsOf n b) (seen (gridOf n) b b) (seenAt n b) reactive machine-part;
     converters = converters-hold (carried (gridOf n) b) (carriedAt n b) (carried-real (gridOf n) (λ i l. current-real r i) b lb) converter-part;
   }

@@ -18,3 +18,4 @@ pub mod Ranges
 pub mod Standing
 pub mod Claim
 pub mod Same
+pub mod VerdictLaw
