@@ -19,3 +19,4 @@ pub mod Standing
 pub mod Claim
 pub mod Same
 pub mod VerdictLaw
+pub mod Worked
