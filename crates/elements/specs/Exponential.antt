@@ -1,11 +1,11 @@
 -- Document 01, "Factors": T(y), of a fraction y = n/d, as a fraction; and that it grows with y.
 -- Assumes nothing.
 use Prim.Native.Nat.{ℕ, zero, suc, _+_, _*_, _^_, _≤_, _<_}
-use mathlib.Core.Path.{refl}
+use mathlib.Core.Path.{_≡_, refl}
 use mathlib.Core.List.{[], _∷_}
 use native.Mathlib.Omega.{arith}
 use native.Mathlib.Nat.{le-refl, pow-zero, pow-suc, mul-le-mul, mul-pos}
-use Rattle.algebra.specs.Reading.{from, read, _⊹_, _⋆_}
+use Rattle.algebra.specs.Reading.{identity, from, read, _⊹_, _⋆_}
 
 -- m!·d^m: the denominator of (n/d)^m/m!, and of the sum that ends with it
 unfoldable pub under : ℕ → ℕ → ℕ
@@ -68,3 +68,32 @@ t-least n d = under-le-over 24 n d
 
 pub tOver-pos : (n d : ℕ) → 0 < d → 0 < tOver n d
 tOver-pos n d h = omega (arith, tUnder-pos d h, t-least n d)
+
+-- ---- a fraction in other terms: both sums grow by the same factor
+power-of : (n k m : ℕ) → (n * k) ^ m ≡ n ^ m * k ^ m
+power-of n k zero = rw (pow-zero (n * k), pow-zero n, pow-zero k)
+power-of n k (suc m) = rw (pow-suc (n * k) m, pow-suc n m, pow-suc k m, power-of n k m) (identity (n ∷ k ∷ n ^ m ∷ k ^ m ∷ []) (search read depth 40 fits 20000) refl)
+
+under-scale : (m d k : ℕ) → under m (d * k) ≡ under m d * k ^ m
+unfolding under
+under-scale zero d k = rw (pow-zero k)
+under-scale (suc m) d k = rw (under-scale m d k, pow-suc k m) (step (under m d) (k ^ m) (suc m))
+  where
+    step : (u p s : ℕ) → u * p * (s * (d * k)) ≡ u * (s * d) * (p * k)
+    step u p s = identity (d ∷ k ∷ u ∷ p ∷ s ∷ []) (search read depth 40 fits 20000) refl
+
+over-scale : (m n d k : ℕ) → over m (n * k) (d * k) ≡ over m n d * k ^ m
+unfolding over
+over-scale zero n d k = rw (pow-zero k)
+over-scale (suc m) n d k = rw (over-scale m n d k, power-of n k (suc m), pow-suc k m) (step (over m n d) (k ^ m) (suc m) (n ^ suc m))
+  where
+    step : (o p s q : ℕ) → o * p * (s * (d * k)) + q * (p * k) ≡ (o * (s * d) + q) * (p * k)
+    step o p s q = identity (d ∷ k ∷ o ∷ p ∷ s ∷ q ∷ []) (search read depth 40 fits 20000) refl
+
+pub tOver-scale : (n d k : ℕ) → tOver (n * k) (d * k) ≡ tOver n d * k ^ 24
+unfolding tOver
+tOver-scale n d k = over-scale 24 n d k
+
+pub tUnder-scale : (d k : ℕ) → tUnder (d * k) ≡ tUnder d * k ^ 24
+unfolding tUnder
+tUnder-scale d k = under-scale 24 d k

@@ -5,11 +5,13 @@ use mathlib.Core.Path.{_≡_, refl, sym, _∙_, ap}
 use mathlib.Core.List.{[], _∷_}
 use mathlib.Core.Logic.{_⊎_, inl, inr, ⊎-elim}
 use native.Mathlib.Omega.{arith}
-use native.Mathlib.Nat.{le-refl, le-trans, mul-le-mul, mul-pos, min-eq-left}
-use lib.Dec.{lit<, lit≤}
+use native.Mathlib.Nat.{le-refl, le-trans, lt-of-not-le, mul-le-mul, mul-pos, min-eq-left}
+use native.Mathlib.Numerals.{add-one}
+use lib.Dec.{le→leb, lit<, lit≤}
 use lib.Pow.{pow-mono}
 use Rattle.algebra.specs.Reading.{poly, from, from-over, read, _⊹_, _⋆_}
 use Rattle.enclosure.specs.Close.{norm}
+use Rattle.enclosure.specs.Root.{below-of-squares}
 use Rattle.enclosure.specs.Point.{Point, times, exact}
 use borrow.Author.Tests.{eqb-true, eq-eqb}
 use Rattle.enclosure.specs.Near.{Near, NearTo, Rules, fair-rules, near-nothing}
@@ -65,6 +67,12 @@ current-room c u A B D h = from (c ∷ u ∷ A ∷ B ∷ D ∷ []) h (search rea
 peak-room : (K c u A B D : ℕ) → K ≤ 2000 → c * u * (c * u) * norm A B ≤ 2 ^ 100 * (10000 * (D * D)) → 2 * norm (A * u * c * K) (B * u * c * K) ≤ 3 * (2 ^ 104 * (D * 1 * 100 * 1000 * (D * 1 * 100 * 1000)))
 peak-room K c u A B D l h = from (K ∷ c ∷ u ∷ A ∷ B ∷ D ∷ []) (2 * (c * u * (c * u) * norm A B) ⋆ mul-le-mul l l ⊹ 8000000 ⋆ h) (search read depth 40 fits 20000) refl
 
+current-few : (c u A B D : ℕ) → c * u * (c * u) * norm A B ≤ 2 ^ 100 * (10000 * (D * D)) → 1 * norm (A * u * c) (B * u * c) ≤ 3 * (3 * 2 ^ 100 * (D * 1 * 100 * (D * 1 * 100)))
+current-few c u A B D h = from (c ∷ u ∷ A ∷ B ∷ D ∷ []) h (search read depth 40 fits 20000) refl
+
+peak-small : (K c u A B D : ℕ) → K ≤ 2000 → c * u * (c * u) * norm A B ≤ 2 ^ 100 * (10000 * (D * D)) → 2 * norm (A * u * c * K) (B * u * c * K) ≤ 3 * (3 * 2 ^ 100 * (D * 1 * 100 * 1000 * (D * 1 * 100 * 1000)))
+peak-small K c u A B D l h = from (K ∷ c ∷ u ∷ A ∷ B ∷ D ∷ []) (2 * (c * u * (c * u) * norm A B) ⋆ mul-le-mul l l ⊹ 8000000 ⋆ h) (search read depth 40 fits 20000) refl
+
 peak-over : (K c u A B D n : ℕ) → 2 * norm (A * u * c * K) (B * u * c * K) ≤ 3 * (n * n * (D * 1 * 100 * 1000 * (D * 1 * 100 * 1000))) → 2 * (c * u * (c * u) * norm A B) * (K * K) ≤ 1000000 * (30000 * (D * D) * (n * n))
 peak-over K c u A B D n h = from (K ∷ c ∷ u ∷ A ∷ B ∷ D ∷ n ∷ []) h (search read depth 40 fits 20000) refl
 
@@ -81,10 +89,17 @@ peakFactor-sized i = go (ceiling (980 * tUnder 100) (tOver (3 * i) 100)) (ceilin
     go : (n : ℕ) → n ≤ 980 → (0 < 1020 + n) × (1020 + n ≤ 2000)
     go n h = (omega arith, omega arith)
 
+-- a bound of what is below 2 ^ 50·√3 is at most 2 ^ 51
+upper-few : (u q D X : ℕ) → 0 < q * (D * D) → X ≤ q * (3 * 2 ^ 100 * (D * D)) → ((m : ℕ) → m + 1 ≡ u → 268435456 * (q * (m * m * (D * D))) ≤ 268435457 * X) → u ≤ 2 ^ 51
+upper-few zero q D X z h f = lit≤ tt
+upper-few (suc m) q D X z h f = below-of-squares m (2 ^ 51) (lt-of-not-le (λ (l : 2 ^ 51 * 2 ^ 51 ≤ m * m). absurd (le→leb 1 0 (from (q ∷ D ∷ m ∷ X ∷ [])
+    (f m (add-one m) ⊹ 268435457 ⋆ h ⊹ 268435456 * q * (D * D) ⋆ l ⊹ 2 ^ 120 ⋆ z) (search read depth 40 fits 20000) refl))))
+
 pub record MachineFigures (c Un : ℕ) (P : Point) (y : Complex) : Type 0 where
   pub bounds : Enclosed 1 3 (driven c Un P) (lowerOf 1 3 (currentBy c Un y)) (upperOf 1 3 (currentBy c Un y))
   pub peak : PeakBound (machinePeakBy c Un y) (peakOver (squareOver c Un P) (P .re) (P .im)) (peakUnder (squareUnder P) (P .re) (P .im))
-  pub small : machinePeakBy c Un y < 2 ^ 53
+  pub upper-few : upperOf 1 3 (currentBy c Un y) ≤ 2 ^ 51
+  pub peak-few : machinePeakBy c Un y ≤ 2 ^ 51
 
 module _ (c Un k : ℕ) (P : Point) (y : Complex) (c₀ : 0 < c) (c₁ : c ≤ 110) (u : Volts Un) (few : k ≤ 900000) (h : NearTo value (Good 200 k) parts k P y) (B₀ : 0 < P .im)
     (room : c * Un * (c * Un) * norm (P .re) (P .im) ≤ 2 ^ 100 * (10000 * (P .den * P .den))) where
@@ -118,38 +133,56 @@ module _ (c Un k : ℕ) (P : Point) (y : Complex) (c₀ : 0 < c) (c₁ : c ≤ 1
       encloses _ (k + 8 + 8 + 8) _ 2 3 (peak-near .1 .fine) (good-extent k (k + 8 + 8 + 8) _ (omega arith) (peak-near .1)) (omega arith) (peak-near .0) (lit< tt) (lit< tt) (lit< tt) (lit< tt)
       (peak-room (peakFactor (min (placeOf y) 230)) c Un (P .re) (P .im) (P .den) (peakFactor-sized (min (placeOf y) 230) .1) room)
 
+  encloses-current : Enclosed 1 3 (driven c Un P) (lowerOf 1 3 (currentBy c Un y)) (upperOf 1 3 (currentBy c Un y))
+  encloses-current =
+      encloses _ (k + 8 + 8) _ 1 3 (current-near .1 .fine) (good-extent k (k + 8 + 8) _ (omega arith) (current-near .1)) (omega arith) (current-near .0) (lit< tt) (lit< tt) (lit< tt) (lit< tt)
+      (current-room c Un (P .re) (P .im) (P .den) room)
+
   pub machine-figures : MachineFigures c Un P y
   machine-figures = record {
-    bounds =
-        encloses _ (k + 8 + 8) _ 1 3 (current-near .1 .fine) (good-extent k (k + 8 + 8) _ (omega arith) (current-near .1)) (omega arith) (current-near .0) (lit< tt) (lit< tt) (lit< tt) (lit< tt)
-        (current-room c Un (P .re) (P .im) (P .den) room);
+    bounds = encloses-current;
     peak =
         peak-bound (squareOver c Un P) (squareUnder P) (P .re) (P .im) (placeOf y) (machinePeakBy c Un y) B₀ index
         (rw at-index at (peak-over (peakFactor (min (placeOf y) 230)) c Un (P .re) (P .im) (P .den) (machinePeakBy c Un y) (peak-encloses .above)))
         (λ m e. rw at-index at (peak-far (peakFactor (min (placeOf y) 230)) c Un (P .re) (P .im) (P .den) m (peak-encloses .near (m + 3) (omega arith))));
-    small = peak-encloses .small;
+    upper-few = upper-few _ 3 (P .den * 1 * 100) _ (mul-pos (lit< tt) (mul-pos (times-pos (h .0 .left)) (times-pos (h .0 .left)))) (current-few c Un (P .re) (P .im) (P .den) room) (encloses-current .near);
+    peak-few = upper-few _ 3 (P .den * 1 * 100 * 1000) _ (mul-pos (lit< tt) (mul-pos (mul-pos (times-pos (h .0 .left)) (lit< tt)) (mul-pos (times-pos (h .0 .left)) (lit< tt)))) (peak-small (peakFactor (min (placeOf y) 230)) c Un (P .re) (P .im) (P .den) (peakFactor-sized (min (placeOf y) 230) .1) room) (peak-encloses .near);
   }
+    where
+      times-pos : {d : ℕ} → 0 < d → 0 < d * 1 * 100
+      times-pos {d} h = omega arith
 
 -- ---- the converters' part, exact at P: the bounds of its size, and √2 times it
 pub record ConverterFigures (P : Point) (x : Complex) : Type 0 where
   pub bounds : Enclosed 1 1 P (lowerOf 1 1 x) (upperOf 1 1 x)
   pub peak : PeakBound (converterPeakBy x) (2 * norm (P .re) (P .im)) (P .den * P .den)
-  pub small : converterPeakBy x < 2 ^ 53
+  pub upper-few : upperOf 1 1 x ≤ 2 ^ 51
+  pub peak-few : converterPeakBy x ≤ 2 ^ 51
 
 pub converter-figures : (k : ℕ) (P : Point) (x : Complex) → k ≤ 1000000 → Near parts k P (value x) → Fine x → Extent (size x)
     → norm (P .re) (P .im) ≤ 2 ^ 100 * (P .den * P .den) → ConverterFigures P x
 unfolding converterPeakBy
 converter-figures k P x few h f s room = record {
-  bounds = encloses x k P 1 1 f s few h (lit< tt) (lit< tt) (lit< tt) (lit< tt) (one (norm (P .re) (P .im)) (P .den * P .den) room);
+  bounds = e₁;
   peak = record {
     no-lower = least (norm (P .re) (P .im)) (upperOf 2 1 x) (P .den) (e .above);
     near = λ m d. far (norm (P .re) (P .im)) m (P .den) (e .near (m + 3) (omega arith));
   };
-  small = e .small;
+  upper-few = upper-few _ 1 (P .den) _ (mul-pos (lit< tt) (mul-pos (h .left) (h .left))) (three (norm (P .re) (P .im)) (P .den * P .den) room) (e₁ .near);
+  peak-few = upper-few _ 1 (P .den) _ (mul-pos (lit< tt) (mul-pos (h .left) (h .left))) (six (norm (P .re) (P .im)) (P .den * P .den) room) (e .near);
 }
   where
     one : (n d : ℕ) → n ≤ 2 ^ 100 * d → 1 * n ≤ 1 * (2 ^ 104 * d)
     one n d h = omega arith
+
+    three : (n d : ℕ) → n ≤ 2 ^ 100 * d → 1 * n ≤ 1 * (3 * 2 ^ 100 * d)
+    three n d h = omega arith
+
+    six : (n d : ℕ) → n ≤ 2 ^ 100 * d → 2 * n ≤ 1 * (3 * 2 ^ 100 * d)
+    six n d h = omega arith
+
+    e₁ : Enclosed 1 1 P (lowerOf 1 1 x) (upperOf 1 1 x)
+    e₁ = encloses x k P 1 1 f s few h (lit< tt) (lit< tt) (lit< tt) (lit< tt) (one (norm (P .re) (P .im)) (P .den * P .den) room)
 
     two : (n d : ℕ) → n ≤ 2 ^ 100 * d → 2 * n ≤ 1 * (2 ^ 104 * d)
     two n d h = omega arith

@@ -1,13 +1,13 @@
 -- Document 01, "What a bus gets": the exact peak √2·I·(1.02 + 0.98/T(3R/X)) by its square, what makes a whole number a
 -- peak, and the law that joins both to the peak table. Assumes nothing.
-use Prim.Native.Nat.{ℕ, _+_, _*_, _≤_, _<_}
+use Prim.Native.Nat.{ℕ, _+_, _*_, _^_, _≤_, _<_}
 use mathlib.Core.Path.{_≡_, refl}
 use mathlib.Core.List.{[], _∷_}
 use mathlib.Core.Logic.{⊎-elim}
 use native.Mathlib.Omega.{arith}
 use native.Mathlib.Nat.{mul-le-mul, eq-or-lt-of-le}
-use Rattle.algebra.specs.Reading.{from, from-over, read, _⊹_, _⋆_}
-use Rattle.elements.specs.Exponential.{tOver, tUnder, t-grows, tUnder-pos, tOver-pos}
+use Rattle.algebra.specs.Reading.{identity, from, from-over, read, _⊹_, _⋆_}
+use Rattle.elements.specs.Exponential.{tOver, tUnder, t-grows, tUnder-pos, tOver-pos, tOver-scale, tUnder-scale}
 use Rattle.elements.specs.PeakTable.{peakFactor, ceiling, ceiling-reaches, slack, peaks-near, peaks-near-last}
 
 -- ---- the exact peak. R and X stand over one denominator, which drops out: 1.02 + 0.98/T(3R/X) is crest R X / (100·tOver (3R) X)
@@ -83,3 +83,34 @@ peak-bound P Q R X i n z x least most = record {
         → 10000 * (m * m) * (Q * (100 * N * (100 * N))) ≤ 10404 * (2 * P * (C * C))
     far m k N C h f =
         from-over (P ∷ Q ∷ m ∷ k ∷ N ∷ C ∷ []) 1000000 (omega arith) (N * N ⋆ h ⊹ 2 * P ⋆ mul-le-mul f f) (search read depth 40 fits 20000) refl
+
+-- ---- R, X and I² in other terms: a peak stays a peak
+crest-scale : (R X k : ℕ) → crest (R * k) (X * k) ≡ crest R X * k ^ 24
+unfolding crest
+crest-scale R X k = rw (times-three R k, tOver-scale (3 * R) X k, tUnder-scale X k) (put (tOver (3 * R) X) (tUnder X) (k ^ 24))
+  where
+    times-three : (R k : ℕ) → 3 * (R * k) ≡ 3 * R * k
+    times-three R k = omega arith
+
+    put : (a b p : ℕ) → 102 * (a * p) + 98 * (b * p) ≡ (102 * a + 98 * b) * p
+    put a b p = omega arith
+
+bound-scale : (n e v s : ℕ) → PeakBound n e v → PeakBound n (e * s) (v * s)
+bound-scale n e v s h = record {
+  no-lower = from (n ∷ e ∷ v ∷ s ∷ []) (s ⋆ h .no-lower) (search read depth 40 fits 20000) refl;
+  near = λ m d. from (m ∷ e ∷ v ∷ s ∷ []) (s ⋆ h .near m d) (search read depth 40 fits 20000) refl;
+}
+
+pub peak-scale : (n P Q R X s k : ℕ) → PeakBound n (peakOver P R X) (peakUnder Q R X) → PeakBound n (peakOver (P * s) (R * k) (X * k)) (peakUnder (Q * s) (R * k) (X * k))
+unfolding peakOver peakUnder
+peak-scale n P Q R X s k h =
+    rw (crest-scale R X k, times-three R k, tOver-scale (3 * R) X k, over (crest R X) (k ^ 24), under (tOver (3 * R) X) (k ^ 24)) (bound-scale n _ _ (s * (k ^ 24 * k ^ 24)) h)
+  where
+    times-three : (R k : ℕ) → 3 * (R * k) ≡ 3 * R * k
+    times-three R k = omega arith
+
+    over : (c p : ℕ) → 2 * (P * s) * (c * p * (c * p)) ≡ 2 * P * (c * c) * (s * (p * p))
+    over c p = identity (P ∷ s ∷ c ∷ p ∷ []) (search read depth 40 fits 20000) refl
+
+    under : (t p : ℕ) → Q * s * (100 * (t * p) * (100 * (t * p))) ≡ Q * (100 * t * (100 * t)) * (s * (p * p))
+    under t p = identity (Q ∷ s ∷ t ∷ p ∷ []) (search read depth 40 fits 20000) refl

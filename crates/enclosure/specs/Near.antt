@@ -230,7 +230,7 @@ near-refl M x h =
       close = from (M ∷ x .re ∷ x .im ∷ x .den ∷ []) (le-refl 0) (search read depth 40 fits 20000) refl;
     }
 
-inverse-proper : (x : Point) → 0 < inverse x .den
+pub inverse-proper : (x : Point) → 0 < inverse x .den
 unfolding inverse
 inverse-proper x = go (isNothing x) refl
   where

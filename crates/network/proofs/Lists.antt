@@ -1,0 +1,37 @@
+-- The records that are counted, as the first ones of the array that holds them.
+use mathlib.Core.Path.{_≡_, sym, _∙_}
+use mathlib.Core.List.{List, [], _∷_, _++_, map}
+use Prim.Native.Nat.{ℕ, _+_, _≤_, _<_}
+use native.Mathlib.Omega.{arith}
+use native.Mathlib.Numerals.{add-one}
+use lib.ListN.{length, take, set, getD, length-map, length-take, List·getD-eq-default}
+use lib.Seq.{take-suc-set, getD-take}
+
+-- the length of an array in a struct, from what owning the struct tells of its list of data tuples
+pub length-mapped : {X Y : Type 0} (f : X → Y) (l : List X) (n : ℕ) → length (map f l) ≡ n → length l ≡ n
+length-mapped f l n e = sym (length-map l f) ∙ e
+
+module _ {X : Type 0} (cap n : ℕ) (l : List X) (whole : length l ≡ cap) where
+  -- a count below the capacity is the number of records, any other counts them all
+  pub count-below : n < cap → length (take n l) ≡ n
+  count-below h = omega (arith, length-take n l)
+
+  pub count-full : cap ≤ n → length (take n l) ≡ cap
+  count-full h = omega (arith, length-take n l)
+
+  pub below-count : length (take n l) < cap → n < cap
+  below-count h = omega (arith, length-take n l)
+
+  -- past the count, and past the array, nothing is read
+  pub past-count : (i : ℕ) (d : X) → n ≤ i → getD (take n l) i d ≡ d
+  past-count i d h = List·getD-eq-default (take n l) d {n = i} (omega (arith, length-take n l))
+
+  pub past-array : (i : ℕ) (d : X) → cap ≤ i → getD (take n l) i d ≡ d
+  past-array i d h = List·getD-eq-default (take n l) d {n = i} (omega (arith, length-take n l))
+
+  -- a record stored at the count is the next one
+  pub appended : (x : X) → n < cap → take (n + 1) (set l n x) ≡ take n l ++ (x ∷ [])
+  appended x h = rw add-one (take-suc-set l n x (omega arith))
+
+  pub appended-same : (x d : X) → n < cap → (k : ℕ) → k ≤ n → getD (take n l ++ (x ∷ [])) k d ≡ getD (set l n x) k d
+  appended-same x d h k p = rw (← appended x h) (getD-take (n + 1) (set l n x) k d (omega arith))

@@ -1,0 +1,22 @@
+use mathlib.Core.Path.{_≡_, sym}
+use lib.ListN.{length}
+use borrow.Author.Needs.{needs}
+use Rattle.network.specs.Network.{maxSources}
+use Rattle.network.proofs.Lists.{length-mapped, count-below, count-full}
+use Rattle.network.proofs.source_total.Statement.{statement}
+use Rattle.network.proofs.source_total.Tie as tie
+
+returns : tie.Need-returns
+returns c =
+    let s = c .before .before .args .s in
+    let h : length (s .sources) ≡ maxSources = search (needs, length-mapped) in
+    sym (count-below maxSources (s .«source_count») (s .sources) h (c .if1 .taken))
+
+returns-2 : tie.Need-returns-2
+returns-2 c =
+    let s = c .before .before .args .s in
+    let h : length (s .sources) ≡ maxSources = search (needs, length-mapped) in
+    sym (count-full maxSources (s .«source_count») (s .sources) h (c .if1 .left))
+
+pub source-total-spec : {M : Type 1} → statement M
+source-total-spec = tie.close (tie.spec returns returns-2)

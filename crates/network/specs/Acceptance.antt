@@ -1,0 +1,97 @@
+-- Laws of the grounds: what an accepted call has passed, and that the number of a record does not depend on later records.
+use mathlib.Core.Path.{_≡_, refl}
+use mathlib.Core.Bool.{Bool, true, false, cond, _&&_}
+use mathlib.Core.List.{List, [], _∷_, _++_}
+use Prim.Native.Nat.{ℕ, _≤_, _<_}
+use native.Mathlib.Omega.{arith}
+use borrow.Author.Tests.{ltb-true, eqb-true, eqb-false, lt-ltb, eq-eqb, ne-eqb}
+use lib.Dec.{ltb, eqb}
+use lib.ListN.{length}
+use Rattle.network.specs.declared.Bus.{Bus}
+use Rattle.network.specs.declared.Source.{Source}
+use Rattle.network.specs.Network.{Network, maxBuses, maxSources, busAt, anyBranch, ifTransformer}
+use Rattle.network.specs.Grounds.{Ground, first, parentOk, depthOk, busGrounds, busRecordNumber, addBusGrounds, busNumber, sourceGrounds, sourceRecordNumber, addSourceGrounds, sourceNumber, closeGrounds, closeNumber}
+use Rattle.network.specs.Tests.{by-test, both-true, at-zero, past-zero}
+use Rattle.network.specs.Ways.{Same, way-same}
+
+-- ---- a list of grounds whose numbers are not 0 gives 0 exactly where every test is passed
+abbrev pub numbered : List Ground → Bool
+numbered [] = true
+numbered (g ∷ gs) = ltb 0 (g .number) && numbered gs
+
+abbrev pub Passed : List Ground → Type 0
+Passed [] = Unit
+Passed (g ∷ gs) = (g .ok ≡ true) × Passed gs
+
+pub passed : (gs : List Ground) → numbered gs ≡ true → first gs ≡ 0 → Passed gs
+passed [] n e = tt
+passed (g ∷ gs) n e =
+    let h = both-true (ltb 0 (g .number)) (numbered gs) n in
+    by-test (g .ok)
+    (λ t. (t, passed gs (h .1) (rw t at e)))
+    (λ t. absurd (omega (arith, ltb-true 0 (g .number) (h .0), rw t at e)))
+
+pub accepted : (gs : List Ground) → Passed gs → first gs ≡ 0
+accepted [] p = refl
+accepted (g ∷ gs) p = rw (p .0) (accepted gs (p .1))
+
+-- ---- buses
+-- an accepted parent is at most the bus itself
+pub parent-le : (i : ℕ) (b : Bus) → parentOk i b ≡ true → b .parent ≤ i
+parent-le i b e =
+    by-test (eqb i 0)
+    (λ t. omega (arith, eqb-true (b .parent) 0 (at-zero i (eqb (b .parent) 0) (ltb (b .parent) i) e (eqb-true i 0 t))))
+    (λ t. omega (arith, ltb-true (b .parent) i (past-zero i (eqb (b .parent) 0) (ltb (b .parent) i) e (omega (arith, eqb-false i 0 t)))))
+
+depth-ok-same : (l m : List Bus) (i : ℕ) → Same l m i → depthOk l i ≡ depthOk m i
+unfolding depthOk
+depth-ok-same l m i s = rw (way-same anyBranch l m i s, way-same ifTransformer l m i s)
+
+-- the number of a record goes by the records up to its own
+pub bus-record-same : (l m : List Bus) (i : ℕ) → Same l m i → busRecordNumber l i ≡ busRecordNumber m i
+unfolding busRecordNumber
+bus-record-same l m i s =
+    by-test (parentOk i (busAt m i))
+    (λ t. rw (s i (omega arith), s (busAt m i .parent) (parent-le i (busAt m i) t), depth-ok-same l m i s))
+    (λ t. rw (s i (omega arith), t))
+
+-- an open network with room tries the record as its next bus
+pub bus-number-open : (n : Network) (b : Bus) → n .closed ≡ false → length (n .buses) < maxBuses → busNumber n b ≡ busRecordNumber (n .buses ++ (b ∷ [])) (length (n .buses))
+unfolding busNumber busRecordNumber
+bus-number-open n b o h = rw (o, lt-ltb (length (n .buses)) maxBuses h)
+
+pub bus-room : (n : Network) (b : Bus) → busNumber n b ≡ 0 → length (n .buses) < maxBuses
+unfolding busNumber
+bus-room n b e = ltb-true (length (n .buses)) maxBuses (passed (addBusGrounds n b) refl e .1 .0)
+
+-- an accepted record passes the grounds in the input as the next bus
+pub bus-accepted : (n : Network) (b : Bus) → busNumber n b ≡ 0 → busRecordNumber (n .buses ++ (b ∷ [])) (length (n .buses)) ≡ 0
+unfolding busNumber busRecordNumber
+bus-accepted n b e =
+    accepted (busGrounds (n .buses ++ (b ∷ [])) (length (n .buses))) (passed (addBusGrounds n b) refl e .1 .1)
+
+-- ---- sources
+pub source-number-open : (n : Network) (p : Source) → n .closed ≡ false → length (n .sources) < maxSources → sourceNumber n p ≡ sourceRecordNumber (n .buses) (length (n .sources)) p
+unfolding sourceNumber sourceRecordNumber
+source-number-open n p o h = rw (o, lt-ltb (length (n .sources)) maxSources h)
+
+pub source-room : (n : Network) (p : Source) → sourceNumber n p ≡ 0 → length (n .sources) < maxSources
+unfolding sourceNumber
+source-room n p e = ltb-true (length (n .sources)) maxSources (passed (addSourceGrounds n p) refl e .1 .0)
+
+pub source-accepted : (n : Network) (p : Source) → sourceNumber n p ≡ 0 → sourceRecordNumber (n .buses) (length (n .sources)) p ≡ 0
+unfolding sourceNumber sourceRecordNumber
+source-accepted n p e =
+    accepted (sourceGrounds (n .buses) (length (n .sources)) p) (passed (addSourceGrounds n p) refl e .1 .1)
+
+-- ---- closing
+pub close-fed : (n : Network) → closeNumber n ≡ 0 → 0 < length (n .sources)
+unfolding closeNumber
+close-fed n e = ltb-true 0 (length (n .sources)) (passed (closeGrounds n) refl e .1 .0)
+
+-- ---- the network after a call: as it was where the number is not 0
+pub refused : {A : Type 0} (k : ℕ) (x y : A) → (k ≡ 0 → ⊥) → cond (eqb k 0) x y ≡ y
+refused k x y h = rw (ne-eqb k 0 h)
+
+pub granted : {A : Type 0} (k : ℕ) (x y : A) → k ≡ 0 → cond (eqb k 0) x y ≡ x
+granted k x y h = rw (eq-eqb k 0 h)

@@ -1,0 +1,229 @@
+-- DEMAND 3: the figures that are calculated for any bus of an accepted network keep document 01's comparisons with the exact values
+-- drawn from its records. Assumes nothing.
+use Prim.Native.Nat.{ℕ, zero, suc, _+_, _*_, _^_, _≤_, _<_, zero-le}
+use mathlib.Core.Path.{_≡_, refl, sym, _∙_, ap, subst}
+use mathlib.Core.Bool.{Bool, true, false}
+use mathlib.Core.List.{List, [], _∷_}
+use mathlib.Core.Logic.{_⊎_, inl, inr, ⊎-elim}
+use native.Mathlib.Omega.{arith}
+use native.Mathlib.Nat.{le-refl, le-trans, le-of-eq, mul-le-mul, mul-add, mul-pos}
+use lib.Dec.{lit<, lit≤}
+use lib.ListN.{length}
+use borrow.Author.Tests.{ne-eqb}
+use Rattle.algebra.specs.Reading.{identity, from, from-over, read, _⊹_, _⋆_}
+use Rattle.enclosure.specs.Close.{norm}
+use Rattle.enclosure.specs.Root.{root-le}
+use Rattle.enclosure.specs.Point.{Point, inverse, turned}
+use Rattle.enclosure.specs.Near.{Near, NearTo}
+use Rattle.enclosure.specs.Steps.{parts}
+use Rattle.enclosure.specs.Units.{unit, extent}
+use Rattle.enclosure.specs.Fair.{value, size, Fine}
+use Rattle.enclosure.specs.Range.{Good, Volts}
+use Rattle.enclosure.specs.Amperes.{Enclosed, Extent}
+use Rattle.enclosure.specs.Chain.{width}
+use Rattle.enclosure.specs.declared.Complex.{Complex}
+use Rattle.elements.specs.Factors.{factorC}
+use Rattle.elements.specs.Sizes.{factorC-sized}
+use Rattle.elements.specs.Peak.{PeakBound, peakOver, peakUnder, peak-scale}
+use Rattle.elements.specs.Currents.{converterPeakBy}
+use Rattle.elements.specs.Figures.{driven, MachineFigures, machine-figures, ConverterFigures, converter-figures}
+use Rattle.tree.specs.Grid.{seen}
+use Rattle.tree.specs.Converters.{carried, carried-real}
+use Rattle.tree.specs.Sums.{sums}
+use Rattle.tree.specs.Bound.{AtMost, Low, seen-most}
+use Rattle.tree.specs.Held.{Held, held-more, held-good, InRange}
+use Rattle.tree.specs.Sound.{sound-proper}
+use Rattle.tree.specs.Fed.{seen-reactive, seen-proper}
+use Rattle.tree.specs.Seen.{seen-near, seen-low, seen-high}
+use Rattle.tree.specs.Rooted.{carried-proper}
+use Rattle.tree.specs.Currents.{carried-near, carried-range, carried-most}
+use Rattle.network.specs.Network.{Network, busAt}
+use Rattle.network.specs.Calls.{Call, run}
+use Rattle.network.specs.Rebuilt.{Rebuilt, run-rebuilt}
+use Rattle.network.specs.Facts.{bus-volts, few-buses, few-sources, closed-source}
+use Rattle.network.specs.Grid.{gridOf, converterAt, isConverter, impedanceAt, convertersAt}
+use Rattle.network.specs.Demand.{Figures, Whole, driving, NotAbove, NotBelow, Narrow, MachinesHold, ConvertersHold, Demand}
+use Rattle.network.specs.Rounded.{ownBy, convertersBy, branchesBy, seenAt, carriedAt, figuresBy, figuresAt, amperesAt}
+use Rattle.network.specs.Elements.{branchMost, machineMost}
+use Rattle.network.specs.Ranges.{voltsOf, sound, levels, referred-least, near-branch}
+use Rattle.network.specs.Standing.{countOf, counted-once, plain, own-near, own-volts, fed, amperes, current-near, current-counted, current-real}
+
+-- ---- over plain numbers: Y is (A, B)/D, so that Z is (A·D, B·D)/(A² + B²)
+module _ (c u A B D : ℕ) where
+  below-as : (i : ℕ) → 3 * (i * i * (D * 1 * 100 * (D * 1 * 100))) ≤ 1 * norm (A * u * c) (B * u * c) → 30000 * (i * i) * norm (A * D) (B * D) ≤ c * u * (c * u) * (norm A B * norm A B)
+  below-as i h = from (c ∷ u ∷ A ∷ B ∷ D ∷ i ∷ []) (norm A B ⋆ h) (search read depth 40 fits 20000) refl
+
+  above-as : (i : ℕ) → 1 * norm (A * u * c) (B * u * c) ≤ 3 * (i * i * (D * 1 * 100 * (D * 1 * 100))) → c * u * (c * u) * (norm A B * norm A B) ≤ 30000 * (i * i) * norm (A * D) (B * D)
+  above-as i h = from (c ∷ u ∷ A ∷ B ∷ D ∷ i ∷ []) (norm A B ⋆ h) (search read depth 40 fits 20000) refl
+
+  -- (re + im)·Un is at most 2 ^ 49, so that √3·I is at most 2 ^ 50
+  room-of : c ≤ 110 → (A + B) * u ≤ 2 ^ 49 * D → c * u * (c * u) * norm A B ≤ 2 ^ 100 * (10000 * (D * D))
+  room-of hc h = from (c ∷ u ∷ A ∷ B ∷ D ∷ []) (u * u * ((A + B) * (A + B)) ⋆ mul-le-mul hc hc ⊹ 12100 ⋆ mul-le-mul h h) (search read depth 40 fits 20000) refl
+
+-- 64 branches and 256 machines
+tall : (k : ℕ) → k ≤ 64 → machineMost * 256 + branchMost * k ≤ 2 ^ 49
+tall k h = omega arith
+
+-- Z of an admittance that is not nothing
+impedance-of : (x : Point) → 0 < x .im → inverse x ≡ turned x
+unfolding inverse
+impedance-of x h = rw (ne-eqb (x .re + x .im) 0 (λ e. omega arith))
+
+-- the machines' figures, from the admittance P to the impedance 1/P
+machines-hold : (c Un : ℕ) (P : Point) (y : Complex) → 0 < P .im → MachineFigures c Un P y
+    → MachinesHold (c * Un) (inverse P) (figuresBy c Un y y .lower) (figuresBy c Un y y .upper) (figuresBy c Un y y .peak)
+machines-hold c Un P y h f = rw (impedance-of P h) (record {
+  below = below-as c Un (P .re) (P .im) (P .den) _ (f .bounds .below);
+  above = above-as c Un (P .re) (P .im) (P .den) _ (f .bounds .above);
+  narrow = width 1000 _ _ (lit≤ tt) (f .bounds .narrow);
+  crest =
+      rw (← over (P .re) (P .im), ← under (P .re) (P .im) (P .den))
+      (peak-scale _ (c * Un * (c * Un) * norm (P .re) (P .im)) (30000 * (P .den * P .den)) (P .re) (P .im) (norm (P .re) (P .im)) (P .den) (f .peak));
+})
+  where
+    over : (A B : ℕ) → c * Un * (c * Un) * norm A B * norm A B ≡ c * Un * (c * Un) * (norm A B * norm A B)
+    over A B = identity (c ∷ Un ∷ A ∷ B ∷ []) (search read depth 40 fits 20000) refl
+
+    under : (A B D : ℕ) → 30000 * (D * D) * norm A B ≡ 30000 * norm (A * D) (B * D)
+    under A B D = identity (A ∷ B ∷ D ∷ []) (search read depth 40 fits 20000) refl
+
+-- the converters' figures, on the real axis
+converters-hold : (P : Point) (x : Complex) → P .im ≡ 0 → ConverterFigures P x → ConvertersHold P (figuresBy 0 0 x x .«converters_lower») (figuresBy 0 0 x x .«converters_upper») (figuresBy 0 0 x x .«converters_peak»)
+converters-hold P x e f = record {
+  below = root-le _ (P .re) (low _ (P .re) (P .im) (P .den) e (f .bounds .below));
+  above = root-le (P .re) _ (high _ (P .re) (P .im) (P .den) e (f .bounds .above));
+  narrow = width 1000 _ _ (lit≤ tt) (f .bounds .narrow);
+  crest = subst (λ (v : ℕ). PeakBound (converterPeakBy x) (2 * v) (P .den * P .den)) (plain-norm (P .re) (P .im) e) (f .peak);
+}
+  where
+    plain-norm : (a b : ℕ) → b ≡ 0 → norm a b ≡ a * a
+    plain-norm a b e = rw e (omega arith)
+
+    low : (i a b d : ℕ) → b ≡ 0 → 1 * (i * i * (d * d)) ≤ 1 * norm a b → i * d * (i * d) ≤ a * a
+    low i a b d e h = from (i ∷ a ∷ d ∷ []) (rw e at h) (search read depth 40 fits 20000) refl
+
+    high : (i a b d : ℕ) → b ≡ 0 → 1 * norm a b ≤ 1 * (i * i * (d * d)) → a * a ≤ i * d * (i * d)
+    high i a b d e h = from (i ∷ a ∷ d ∷ []) (rw e at h) (search read depth 40 fits 20000) refl
+
+-- 256 converters of 30,000 A at the highest voltage, seen at the lowest
+few-amperes : (u S A B D : ℕ) → 100 ≤ u → S ≤ 2 ^ 34 * 256 → (A + B) * u ≤ 1400 * S * D → norm A B ≤ 2 ^ 100 * (D * D)
+few-amperes u S A B D hu hs h = from (A ∷ B ∷ D ∷ []) (mul-le-mul small small) (search read depth 40 fits 20000) refl
+  where
+    small : A + B ≤ 2 ^ 50 * D
+    small = from-over (u ∷ S ∷ A ∷ B ∷ D ∷ []) 100 (lit< tt) ((A + B) ⋆ hu ⊹ h ⊹ 1400 * D ⋆ hs) (search read depth 40 fits 20000) refl
+
+sums-times : (c : ℕ) (f : ℕ → ℕ) (n : ℕ) → sums (λ i. c * f i) n ≡ c * sums f n
+sums-times c f zero = omega arith
+sums-times c f (suc n) = ap (λ (m : ℕ). m + c * f n) (sums-times c f n) ∙ sym (mul-add c (sums f n) (f n))
+
+range-extent : (y : Complex) → InRange y → Extent (size y)
+unfolding extent
+range-extent y (inl e) = inl e
+range-extent y (inr h) = inr (wide (2 ^ 200) (2 ^ 450) unit (size y) (lit≤ tt) (h .0), wide (2 ^ 200) (2 ^ 450) (size y) unit (lit≤ tt) (h .1))
+  where
+    wide : (e f u s : ℕ) → e ≤ f → u ≤ s * e → u ≤ s * f
+    wide e f u s l h = from (e ∷ f ∷ u ∷ s ∷ []) (h ⊹ s ⋆ l) (search read depth 40 fits 20000) refl
+
+-- a lower bound is not above an upper one
+order : (q D l u X : ℕ) → 0 < q * (D * D) → q * (l * l * (D * D)) ≤ X → X ≤ q * (u * u * (D * D)) → l ≤ u
+order q D l u X z h k = root-le l u (from-over (q ∷ D ∷ l ∷ u ∷ X ∷ []) (q * (D * D)) z (h ⊹ k) (search read depth 40 fits 20000) refl)
+
+module _ {n : Network} (r : Rebuilt n) (source : 0 < length (n .sources)) (b : ℕ) (lb : b < length (n .buses)) where
+  abbrev units : ℕ
+  units = 1069 + (46 + 4 * length (n .buses)) * 37
+
+  few : length (n .buses) ≤ 64
+  few = few-buses r
+
+  few-units : units ≤ 20000
+  few-units = let m = few in omega arith
+
+  some : 0 < voltsOf n b
+  some = le-trans (lit≤ tt) (bus-volts r b lb .0)
+
+  reactive : 0 < seen (gridOf n) b b .im
+  reactive = seen-reactive (gridOf n) (sound r .tree) (sound-proper (gridOf n) (sound r) (plain r)) (fed r source) b lb
+
+  seen-held : Held units (seen (gridOf n) b b) (seenAt n b)
+  unfolding seenAt
+  seen-held =
+      let m = few in
+      seen-near (gridOf n) (voltsOf n) (sound r) (levels r) (plain r) (omega arith) (branchesBy n) (ownBy n) 1069 (lit≤ tt)
+      (λ i z l. held-more 24 1069 _ _ (lit≤ tt) (near-branch r i z l)) (λ c l. own-near r c) b b lb
+
+  seen-good : NearTo value (Good 200 units) parts units (seen (gridOf n) b b) (seenAt n b)
+  seen-good =
+      let m = few in
+      let k = few-units in
+      held-good units _ _ (omega arith) seen-held (seen-low (gridOf n) (voltsOf n) (sound r) (levels r) (plain r) (omega arith) b b lb) (seen-high (gridOf n) (voltsOf n) (sound r) (levels r) (plain r) (omega arith) b b lb)
+
+  -- what is seen at b, times Un
+  seen-volts : (seen (gridOf n) b b .re + seen (gridOf n) b b .im) * voltsOf n b ≤ 2 ^ 49 * seen (gridOf n) b b .den
+  seen-volts =
+      le-trans (seen-most (gridOf n) b (voltsOf n b) (machineMost * 256) branchMost (own-volts r b) (λ i l e. referred-least r b i lb l e) b)
+      (mul-le-mul (tall (length (n .buses)) few) (le-refl (seen (gridOf n) b b .den)))
+
+  machine-part : MachineFigures (factorC (n .tolerance) (voltsOf n b)) (voltsOf n b) (seen (gridOf n) b b) (seenAt n b)
+  machine-part =
+      let c = factorC-sized (n .tolerance) (voltsOf n b) in
+      let k = few-units in
+      machine-figures _ (voltsOf n b) units _ (seenAt n b) (le-trans (lit≤ tt) (c .0)) (c .1) (some, omega (arith, bus-volts r b lb .1)) (omega arith) seen-good reactive
+      (room-of _ (voltsOf n b) _ _ _ (c .1) seen-volts)
+
+  -- ---- the converters' part
+  converters-few : (carried (gridOf n) b .re + carried (gridOf n) b .im) * voltsOf n b ≤ 1400 * sums (λ i. 2 ^ 34 * countOf (converterAt i) (n .sources)) (length (n .buses)) * carried (gridOf n) b .den
+  converters-few = carried-most (gridOf n) (voltsOf n) (sound r) (levels r) (λ i. 2 ^ 34 * countOf (converterAt i) (n .sources)) (amperes r .proper) (λ i l. current-counted r i) b lb
+
+  converters-room : norm (carried (gridOf n) b .re) (carried (gridOf n) b .im) ≤ 2 ^ 100 * (carried (gridOf n) b .den * carried (gridOf n) b .den)
+  converters-room =
+      few-amperes (voltsOf n b) _ _ _ _ (bus-volts r b lb .0)
+      (le-trans (le-of-eq (sums-times (2 ^ 34) (λ i. countOf (converterAt i) (n .sources)) (length (n .buses)))) (mul-le-mul (le-refl (2 ^ 34)) (le-trans (counted-once isConverter (n .sources) (length (n .buses))) (few-sources r))))
+      converters-few
+
+  converter-part : ConverterFigures (carried (gridOf n) b) (carriedAt n b)
+  unfolding carriedAt
+  converter-part =
+      let m = few in
+      let volts : (i : ℕ) → i < length (n .buses) → 0 < voltsOf n i = λ i l. le-trans (lit≤ tt) (bus-volts r i l .0) in
+      let h = carried-near (gridOf n) (voltsOf n) (sound r) (levels r) (amperes r) (omega arith) (convertersBy n) 1032 (lit≤ tt) (λ i l. current-near r i (volts i l)) b lb in
+      let g = carried-range (gridOf n) (voltsOf n) (sound r) (levels r) (amperes r) (omega arith) (convertersBy n) 1032 (lit≤ tt) (λ i l. current-near r i (volts i l)) b lb in
+      converter-figures (1032 + (288 + 4 * length (n .buses))) _ _ (omega arith) (h .0) (h .1) (range-extent _ g) converters-room
+
+  machine-order : figuresAt n b .lower ≤ figuresAt n b .upper
+  machine-order = order 3 (seen (gridOf n) b b .den * 1 * 100) _ _ _ (mul-pos (lit< tt) (mul-pos hundred hundred)) (machine-part .bounds .below) (machine-part .bounds .above)
+    where
+      hundred : 0 < seen (gridOf n) b b .den * 1 * 100
+      hundred = mul-pos (mul-pos (seen-held .0 .left) (lit< tt)) (lit< tt)
+
+  converter-order : figuresAt n b .«converters_lower» ≤ figuresAt n b .«converters_upper»
+  converter-order = order 1 (carried (gridOf n) b .den) _ _ _ (mul-pos (lit< tt) (mul-pos proper proper)) (converter-part .bounds .below) (converter-part .bounds .above)
+    where
+      proper : 0 < carried (gridOf n) b .den
+      proper = carried-proper (gridOf n) (sound r .tree) (λ i z m. (sound r .volts i z m .0 .0, sound r .volts i z m .1 .0)) (amperes r .proper) b lb
+
+  pub figures-whole : Whole (amperesAt n b) (figuresAt n b)
+  figures-whole = record {
+    lower = refl;
+    upper = refl;
+    «converters_lower» = refl;
+    «converters_upper» = refl;
+    peak = refl;
+    «converters_peak» = refl;
+    lowers-small = omega (arith, machine-order, converter-order, machine-part .upper-few, converter-part .upper-few);
+    uppers-small = omega (arith, machine-part .upper-few, converter-part .upper-few);
+    peaks-small = omega (arith, machine-part .peak-few, converter-part .peak-few);
+  }
+
+  -- THE FIGURES KEEP DEMAND 3
+  pub demand : Demand n b (amperesAt n b)
+  demand = record {
+    figures = figuresAt n b;
+    whole = figures-whole;
+    machines = machines-hold _ (voltsOf n b) (seen (gridOf n) b b) (seenAt n b) reactive machine-part;
+    converters = converters-hold (carried (gridOf n) b) (carriedAt n b) (carried-real (gridOf n) (λ i l. current-real r i) b lb) converter-part;
+  }
+
+-- THE CLAIM, for every list of calls, refused ones among them: if its run is closed, then what is given for any bus of it meets demand 3
+-- for the network read off that list
+pub claim : (cs : List Call) → run cs .closed ≡ true → (b : ℕ) → b < length (run cs .buses) → Demand (run cs) b (amperesAt (run cs) b)
+claim cs c b l = demand (run-rebuilt cs) (closed-source (run-rebuilt cs) c) b l

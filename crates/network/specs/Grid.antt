@@ -1,0 +1,79 @@
+-- Document 01, "Seen impedance": a network's records as a tree of branches with what stands at each bus, exact.
+use Prim.Native.Nat.{ℕ, _+_, _*_, min}
+use mathlib.Core.Bool.{Bool, cond, _&&_}
+use mathlib.Core.List.{List}
+use lib.Dec.{leb, eqb}
+use lib.ListN.{length}
+use Rattle.enclosure.specs.Point.{Point, nothing, sum, inverse}
+use Rattle.elements.specs.Impedance as impedance
+use Rattle.tree.specs.Grid.{Branch, Grid, seen}
+use Rattle.tree.specs.Converters.{carried}
+use Rattle.tree.specs.Sums.{sumOf}
+use Rattle.network.specs.declared.Bus.{Bus}
+use Rattle.network.specs.declared.Source.{Source}
+use Rattle.network.specs.Network.{Network, busAt, parentOf}
+
+-- "Line"; "Transformer, own side: .., c by the lower of the two nominal voltages". Bus 0 has no branch
+unfoldable pub branchOf : ℕ → Bus → Bus → Point
+branchOf tolerance parent b =
+    cond (eqb (b .kind) 1) (impedance.line (b .f1) (b .f2) (b .f3) (b .f4))
+    (cond (eqb (b .kind) 2) (impedance.transformer tolerance (min (parent .volts) (b .volts)) (b .f2) (b .f3) (b .f4) (b .f5))
+    nothing)
+
+-- rated volts on the parent's side and on the bus's own; a line has none, and its ratio is 1
+unfoldable pub aboveOf : Bus → ℕ
+aboveOf b = cond (eqb (b .kind) 2) (b .f1) 1
+
+unfoldable pub belowOf : Bus → ℕ
+belowOf b = cond (eqb (b .kind) 2) (b .f2) 1
+
+-- "Feeder", "Generator: .., c by its bus", "Motor"; Un is that of the source's bus
+unfoldable pub impedanceOf : ℕ → ℕ → Source → Point
+impedanceOf tolerance Un p =
+    cond (eqb (p .kind) 1) (impedance.feeder tolerance Un (p .f1) (p .f2))
+    (cond (eqb (p .kind) 2) (impedance.generator tolerance Un (p .f1) (p .f2) (p .f3) (p .f4) (p .f5))
+    (cond (eqb (p .kind) 3) (impedance.motor (p .f1) (p .f2) (p .f3) (p .f4))
+    nothing))
+
+-- "1/Z of each feeder, generator and motor"
+abbrev pub admittanceOf : Network → Source → Point
+admittanceOf n p = inverse (impedanceOf (n .tolerance) (busAt (n .buses) (p .bus) .volts) p)
+
+-- "rated current·k" of a converter
+abbrev pub currentOf : Source → Point
+currentOf p = impedance.converter (p .f1) (p .f2)
+
+-- a feeder, generator or motor; a converter; and which stands at bus b
+abbrev pub isMachine : Source → Bool
+isMachine p = leb (p .kind) 3
+
+abbrev pub isConverter : Source → Bool
+isConverter p = eqb (p .kind) 4
+
+abbrev pub machineAt : ℕ → Source → Bool
+machineAt b p = isMachine p && eqb (p .bus) b
+
+abbrev pub converterAt : ℕ → Source → Bool
+converterAt b p = isConverter p && eqb (p .bus) b
+
+-- the tree of a network
+abbrev pub gridOf : Network → Grid
+gridOf n = record {
+  count = length (n .buses);
+  branch = λ i. record {
+    parent = busAt (n .buses) i .parent;
+    z = branchOf (n .tolerance) (parentOf (n .buses) i) (busAt (n .buses) i);
+    above = aboveOf (busAt (n .buses) i);
+    below = belowOf (busAt (n .buses) i);
+  };
+  own = λ b. sumOf sum (machineAt b) (admittanceOf n) nothing (n .sources);
+  current = λ b. sumOf sum (converterAt b) currentOf nothing (n .sources);
+}
+
+-- "Z at b is 1/Seen(b without none)."
+abbrev pub impedanceAt : Network → ℕ → Point
+impedanceAt n b = inverse (seen (gridOf n) b b)
+
+-- "Converters' part (document 004, type IV)"
+abbrev pub convertersAt : Network → ℕ → Point
+convertersAt n b = carried (gridOf n) b

@@ -1,0 +1,143 @@
+-- The grounds on which a call is refused, in the order in which document 01 has them tried, and the network after each call.
+use mathlib.Core.Bool.{Bool, true, false, not, cond, _&&_, _||_}
+use mathlib.Core.List.{List, [], _∷_, _++_}
+use Prim.Native.Nat.{ℕ}
+use lib.Dec.{leb, ltb, eqb}
+use lib.ListN.{length}
+use Rattle.network.specs.declared.Bus.{Bus}
+use Rattle.network.specs.declared.Source.{Source}
+use Rattle.network.specs.Records.{within, toleranceOk, voltsOk, ratingOk, branchOk, ratedOk, fieldsOk}
+use Rattle.network.specs.Network.{Network, maxBuses, maxSources, maxBranches, maxTransformers, busAt, parentOf, depthOf, transformersOf}
+
+-- a ground: the test that a call has to pass, and the number that it is refused with
+pub record Ground : Type 0 where
+  pub ok : Bool
+  pub number : ℕ
+
+abbrev pub on : Bool → ℕ → Ground
+on b n = record { ok = b; number = n }
+
+-- the number of the first test that fails; "An accepted call carries number 0"
+abbrev pub first : List Ground → ℕ
+first [] = 0
+first (g ∷ gs) = cond (g .ok) (first gs) (g .number)
+
+-- one test at place 0, another at every other place
+abbrev pub atZero : ℕ → Bool → Bool → Bool
+atZero i a b = (eqb i 0 && a) || (ltb 0 i && b)
+
+-- ---- starting
+-- "1 tolerance not 6 or 10 (an empty open study of tolerance 6 comes back)."
+abbrev pub startNumber : ℕ → ℕ
+startNumber t = first (on (toleranceOk t) 1 ∷ [])
+
+abbrev pub emptyOf : ℕ → Network
+emptyOf t = record { tolerance = t; closed = false; buses = []; sources = [] }
+
+abbrev pub startNetwork : ℕ → Network
+startNetwork t = emptyOf (cond (toleranceOk t) t 6)
+
+-- ---- adding a bus
+-- "3 parent.": "Bus 0 has parent 0"; "Any other bus names a parent with a smaller number."
+abbrev pub parentOk : ℕ → Bus → Bool
+parentOk i b = atZero i (eqb (b .parent) 0) (ltb (b .parent) i)
+
+-- "4 branch kind.": 0 at bus 0, a line or a transformer at any other
+abbrev pub kindOk : ℕ → Bus → Bool
+kindOk i b = atZero i (eqb (b .kind) 0) (within (b .kind) 1 2)
+
+-- "6 line between unequal voltages."
+abbrev pub lineVoltsOk : Bus → Bus → Bool
+lineVoltsOk parent b = not (eqb (b .kind) 1) || eqb (parent .volts) (b .volts)
+
+-- "7 transformer rated voltage.": the first on the parent's side, the second on the bus's own
+abbrev pub transformerVoltsOk : Bus → Bus → Bool
+transformerVoltsOk parent b = not (eqb (b .kind) 2) || (ratedOk (b .f1) (parent .volts) && ratedOk (b .f2) (b .volts))
+
+-- "8 too deep: more than 18 branches, or more than 4 transformers."
+unfoldable pub depthOk : List Bus → ℕ → Bool
+depthOk l i = leb (depthOf l i) maxBranches && leb (transformersOf l i) maxTransformers
+
+-- the grounds in the input for the record of bus i, as it stands in a list of bus records; later records do not matter
+abbrev pub busGrounds : List Bus → ℕ → List Ground
+busGrounds l i =
+    on (voltsOk (busAt l i)) 2
+    ∷ on (parentOk i (busAt l i)) 3
+    ∷ on (kindOk i (busAt l i)) 4
+    ∷ on (branchOk (busAt l i)) 5
+    ∷ on (lineVoltsOk (parentOf l i) (busAt l i)) 6
+    ∷ on (transformerVoltsOk (parentOf l i) (busAt l i)) 7
+    ∷ on (depthOk l i) 8
+    ∷ on (ratingOk (busAt l i)) 9
+    ∷ []
+
+unfoldable pub busRecordNumber : List Bus → ℕ → ℕ
+busRecordNumber l i = first (busGrounds l i)
+
+-- "State grounds are tried first, then rising numbers": 21 and 23, and then those of the record as the next bus
+abbrev pub addBusGrounds : Network → Bus → List Ground
+addBusGrounds n b =
+    on (not (n .closed)) 21
+    ∷ on (ltb (length (n .buses)) maxBuses) 23
+    ∷ busGrounds (n .buses ++ (b ∷ [])) (length (n .buses))
+
+unfoldable pub busNumber : Network → Bus → ℕ
+busNumber n b = first (addBusGrounds n b)
+
+-- "a refused call adds nothing to it"
+unfoldable pub afterBus : Network → Bus → Network
+afterBus n b =
+    cond (eqb (busNumber n b) 0)
+    (record { tolerance = n .tolerance; closed = n .closed; buses = n .buses ++ (b ∷ []); sources = n .sources })
+    n
+
+-- ---- adding a source
+-- "13 machine rated voltage.", of a generator or a motor
+abbrev pub machineVoltsOk : Bus → Source → Bool
+machineVoltsOk b p = not (within (p .kind) 2 3) || ratedOk (p .f1) (b .volts)
+
+-- "14 first source not a feeder, feeder elsewhere than bus 0, or a second one."
+abbrev pub feederPlaceOk : ℕ → Source → Bool
+feederPlaceOk j p = atZero j (eqb (p .kind) 1 && eqb (p .bus) 0) (not (eqb (p .kind) 1))
+
+-- the grounds in the input for the record of the source at place j over a list of buses
+abbrev pub sourceGrounds : List Bus → ℕ → Source → List Ground
+sourceGrounds l j p =
+    on (within (p .kind) 1 4) 10
+    ∷ on (ltb (p .bus) (length l)) 11
+    ∷ on (fieldsOk p) 12
+    ∷ on (machineVoltsOk (busAt l (p .bus)) p) 13
+    ∷ on (feederPlaceOk j p) 14
+    ∷ []
+
+unfoldable pub sourceRecordNumber : List Bus → ℕ → Source → ℕ
+sourceRecordNumber l j p = first (sourceGrounds l j p)
+
+abbrev pub addSourceGrounds : Network → Source → List Ground
+addSourceGrounds n p =
+    on (not (n .closed)) 21
+    ∷ on (ltb (length (n .sources)) maxSources) 24
+    ∷ sourceGrounds (n .buses) (length (n .sources)) p
+
+unfoldable pub sourceNumber : Network → Source → ℕ
+sourceNumber n p = first (addSourceGrounds n p)
+
+unfoldable pub afterSource : Network → Source → Network
+afterSource n p =
+    cond (eqb (sourceNumber n p) 0)
+    (record { tolerance = n .tolerance; closed = n .closed; buses = n .buses; sources = n .sources ++ (p ∷ []) })
+    n
+
+-- ---- closing
+-- "21 study closed already (adding or closing)."; "25 closing without a source"
+abbrev pub closeGrounds : Network → List Ground
+closeGrounds n = on (not (n .closed)) 21 ∷ on (ltb 0 (length (n .sources))) 25 ∷ []
+
+unfoldable pub closeNumber : Network → ℕ
+closeNumber n = first (closeGrounds n)
+
+unfoldable pub afterClose : Network → Network
+afterClose n =
+    cond (eqb (closeNumber n) 0)
+    (record { tolerance = n .tolerance; closed = true; buses = n .buses; sources = n .sources })
+    n

@@ -1,0 +1,80 @@
+-- The network of a study: its tolerance, whether it is closed, and the lists of its records, each kind in order.
+use mathlib.Core.Bool.{Bool, cond}
+use mathlib.Core.List.{List}
+use Prim.Native.Nat.{ℕ, zero, suc, _+_}
+use lib.Dec.{ltb, eqb}
+use lib.ListN.{take, getD}
+use Rattle.network.specs.declared.Bus.{Bus}
+use Rattle.network.specs.declared.Source.{Source}
+use Rattle.network.specs.declared.Study.{Study}
+
+-- "At most 64 buses, 256 sources."
+abbrev pub maxBuses : ℕ
+maxBuses = 64
+
+abbrev pub maxSources : ℕ
+maxSources = 256
+
+-- "At most 18 branches, 4 of them transformers, lead from bus 0 to any bus."
+abbrev pub maxBranches : ℕ
+maxBranches = 18
+
+abbrev pub maxTransformers : ℕ
+maxTransformers = 4
+
+-- "the tolerance of its start, the bus records and the source records of its accepted additions, each kind in order", and
+-- "whether its study is closed"
+pub record Network : Type 0 where
+  pub tolerance : ℕ
+  pub closed : Bool
+  pub buses : List Bus
+  pub sources : List Source
+
+-- the network that the values of a study stand for: of each array the records that are counted, at most all of them
+abbrev pub network : Study → Network
+network s = record {
+  tolerance = s .tolerance;
+  closed = s .closed;
+  buses = take (s .«bus_count») (s .buses);
+  sources = take (s .«source_count») (s .sources);
+}
+
+-- the record that is read past the end of a list
+abbrev pub blank : Bus
+blank = record { parent = 0; volts = 0; kind = 0; f1 = 0; f2 = 0; f3 = 0; f4 = 0; f5 = 0; rating = 0; «peak_rating» = 0 }
+
+abbrev pub blankSource : Source
+blankSource = record { kind = 0; bus = 0; f1 = 0; f2 = 0; f3 = 0; f4 = 0; f5 = 0 }
+
+-- "Buses are numbered from 0 as accepted": the record of bus i, and that of its parent
+abbrev pub busAt : List Bus → ℕ → Bus
+busAt l i = getD l i blank
+
+abbrev pub parentOf : List Bus → ℕ → Bus
+parentOf l i = busAt l (busAt l i .parent)
+
+abbrev pub sourceAt : List Source → ℕ → Source
+sourceAt l j = getD l j blankSource
+
+-- The branches on the way from bus i to bus 0, each counted as `weight` says of the record of its lower bus. "Any other bus names
+-- a parent with a smaller number": the way goes on while numbers fall, so that i steps are enough.
+unfoldable pub along : (Bus → ℕ) → List Bus → ℕ → ℕ → ℕ
+along weight l zero i = 0
+along weight l (suc steps) i =
+    cond (ltb (busAt l i .parent) i) (along weight l steps (busAt l i .parent) + weight (busAt l i)) 0
+
+abbrev pub way : (Bus → ℕ) → List Bus → ℕ → ℕ
+way weight l i = along weight l i i
+
+-- the branches, and the transformers among them, that lead from bus 0 to bus i
+abbrev pub anyBranch : Bus → ℕ
+anyBranch b = 1
+
+abbrev pub ifTransformer : Bus → ℕ
+ifTransformer b = cond (eqb (b .kind) 2) 1 0
+
+abbrev pub depthOf : List Bus → ℕ → ℕ
+depthOf l i = way anyBranch l i
+
+abbrev pub transformersOf : List Bus → ℕ → ℕ
+transformersOf l i = way ifTransformer l i

@@ -1,0 +1,31 @@
+-- Querying a bus: the grounds of refusal, and what is given.
+use mathlib.Core.Bool.{Bool, cond}
+use mathlib.Core.List.{List, [], _∷_}
+use Prim.Native.Nat.{ℕ}
+use lib.Dec.{ltb, eqb}
+use lib.ListN.{length}
+use Rattle.enclosure.specs.Units.{ofNat}
+use Rattle.network.specs.declared.Amperes.{Amperes}
+use Rattle.network.specs.declared.Verdict.{Verdict}
+use Rattle.network.specs.declared.Verdict.the-variants.{Close}
+use Rattle.network.specs.Network.{Network, busAt}
+use Rattle.network.specs.Grounds.{Ground, on, first}
+use Rattle.network.specs.Rounded.{amperesOf, amperesAt}
+use Rattle.network.specs.Verdict.{verdictOf}
+
+-- "22 not closed (querying)."; "15 queried bus absent."
+abbrev pub queryGrounds : Network → ℕ → List Ground
+queryGrounds n b = on (n .closed) 22 ∷ on (ltb b (length (n .buses))) 15 ∷ []
+
+unfoldable pub queryNumber : Network → ℕ → ℕ
+queryNumber n b = first (queryGrounds n b)
+
+-- "a refused query has six amperes 0 and verdict close"
+abbrev pub noAmperes : Amperes
+noAmperes = amperesOf (record { lower = 0; upper = 0; «converters_lower» = 0; «converters_upper» = 0; peak = 0; «converters_peak» = 0 })
+
+unfoldable pub amperesGiven : Network → ℕ → Amperes
+amperesGiven n b = cond (eqb (queryNumber n b) 0) (amperesAt n b) noAmperes
+
+unfoldable pub verdictGiven : Network → ℕ → Verdict
+verdictGiven n b = cond (eqb (queryNumber n b) 0) (verdictOf (amperesAt n b) (ofNat (busAt (n .buses) b .rating)) (ofNat (busAt (n .buses) b .«peak_rating»))) Close

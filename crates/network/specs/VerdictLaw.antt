@@ -1,0 +1,81 @@
+-- The verdict on whole amperes is document 01's, on the whole numbers. Assumes nothing.
+use Prim.Native.Nat.{ℕ, _+_, _-_, _^_, _≤_, _<_}
+use mathlib.Core.Path.{_≡_, refl, sym, _∙_, ap}
+use mathlib.Core.Bool.{Bool, true, false, cond}
+use mathlib.Core.List.{List}
+use native.Mathlib.Omega.{arith}
+use native.Mathlib.Nat.{le-trans, le-of-lt}
+use lib.Dec.{ltb, eqb, lit≤}
+use lib.ListN.{length}
+use borrow.Author.Tests.{ltb-true, ltb-false, lt-ltb, eq-eqb}
+use lib.Ieee.{Float, binary64, add, sub, lt}
+use Rattle.enclosure.specs.Units.{ofNat}
+use Rattle.enclosure.specs.Whole.{plus-whole, minus-whole, less-whole}
+use Rattle.network.specs.declared.Amperes.{Amperes}
+use Rattle.network.specs.declared.Verdict.{Verdict}
+use Rattle.network.specs.declared.Verdict.the-variants.{Within, Over, Close}
+use Rattle.network.specs.Network.{Network, busAt}
+use Rattle.network.specs.Calls.{Call, run}
+use Rattle.network.specs.Tests.{by-test}
+use Rattle.network.specs.Rebuilt.{Rebuilt, run-rebuilt}
+use Rattle.network.specs.Facts.{bus-rating, bus-peak-rating, closed-source}
+use Rattle.network.specs.Demand.{Figures, Whole}
+use Rattle.network.specs.Rounded.{figuresAt, amperesAt}
+use Rattle.network.specs.Verdict.{verdictOf, verdictOn}
+use Rattle.network.specs.Query.{queryNumber, queryGrounds, verdictGiven}
+use Rattle.network.specs.Claim.{figures-whole}
+
+-- P against its rating, then the rest
+over-or : (p q : ℕ) (v w : Verdict) → p ≤ 2 ^ 53 → q ≤ 2 ^ 53 → v ≡ w
+    → cond (lt (ofNat q) (ofNat p)) (Over (sub binary64 (ofNat p) (ofNat q))) v ≡ cond (ltb q p) (Over (ofNat (p - q))) w
+over-or p q v w hp hq e =
+    rw (less-whole q p hq hp)
+    (by-test (ltb q p)
+    (λ t. rw t (ap Over (minus-whole p q hp (le-of-lt (ltb-true q p t)))))
+    (λ t. rw t e))
+
+within-or : (u r : ℕ) → u ≤ 2 ^ 53 → r ≤ 2 ^ 53
+    → cond (lt (ofNat r) (ofNat u)) Close (Within (sub binary64 (ofNat r) (ofNat u))) ≡ cond (ltb r u) Close (Within (ofNat (r - u)))
+within-or u r hu hr =
+    rw (less-whole r u hr hu)
+    (by-test (ltb r u)
+    (λ t. rw t)
+    (λ t. rw t (ap Within (minus-whole r u hr (ltb-false r u t)))))
+
+-- THE VERDICT on whole amperes
+pub verdict-whole : (a : Amperes) (f : Figures) → Whole a f → (rating peakRating : ℕ) → rating ≤ 2 ^ 53 → peakRating ≤ 2 ^ 53
+    → verdictOf a (ofNat rating) (ofNat peakRating) ≡ verdictOn (f .lower + f .«converters_lower») (f .upper + f .«converters_upper») (f .peak + f .«converters_peak») rating peakRating
+unfolding verdictOf
+verdict-whole a f w rating peakRating hr hp =
+    rw (
+      w .lower,
+      w .«converters_lower»,
+      w .upper,
+      w .«converters_upper»,
+      w .peak,
+      w .«converters_peak»,
+      plus-whole (f .lower) (f .«converters_lower») (omega (arith, w .lowers-small)) (omega (arith, w .lowers-small)),
+      plus-whole (f .upper) (f .«converters_upper») (omega (arith, w .uppers-small)) (omega (arith, w .uppers-small)),
+      plus-whole (f .peak) (f .«converters_peak») (omega (arith, w .peaks-small)) (omega (arith, w .peaks-small)),
+    )
+    (over-or (f .peak + f .«converters_peak») peakRating _ _ (le-of-lt (w .peaks-small)) hp
+    (over-or (f .lower + f .«converters_lower») rating _ _ (le-of-lt (w .lowers-small)) hr
+    (within-or (f .upper + f .«converters_upper») rating (le-of-lt (w .uppers-small)) hr)))
+
+-- a query of a bus of a closed network is accepted
+pub query-accepted : (n : Network) (b : ℕ) → n .closed ≡ true → b < length (n .buses) → queryNumber n b ≡ 0
+unfolding queryNumber
+query-accepted n b c l = ap (λ (t : Bool). cond t (cond (ltb b (length (n .buses))) 0 15) 22) c ∙ ap (λ (t : Bool). cond t 0 15) (lt-ltb b (length (n .buses)) l)
+
+verdict-given : (n : Network) (b : ℕ) → queryNumber n b ≡ 0 → verdictGiven n b ≡ verdictOf (amperesAt n b) (ofNat (busAt (n .buses) b .rating)) (ofNat (busAt (n .buses) b .«peak_rating»))
+unfolding verdictGiven
+verdict-given n b e = rw (eq-eqb (queryNumber n b) 0 e)
+
+-- DEMAND 2's last part, for every list of calls: the verdict given for any bus follows document 01's comparison of its amperes
+pub verdict-claim : (cs : List Call) → run cs .closed ≡ true → (b : ℕ) → b < length (run cs .buses)
+    → verdictGiven (run cs) b ≡ verdictOn (figuresAt (run cs) b .lower + figuresAt (run cs) b .«converters_lower») (figuresAt (run cs) b .upper + figuresAt (run cs) b .«converters_upper»)
+    (figuresAt (run cs) b .peak + figuresAt (run cs) b .«converters_peak») (busAt (run cs .buses) b .rating) (busAt (run cs .buses) b .«peak_rating»)
+verdict-claim cs c b l =
+    let r = run-rebuilt cs in
+    verdict-given (run cs) b (query-accepted (run cs) b c l)
+    ∙ verdict-whole (amperesAt (run cs) b) (figuresAt (run cs) b) (figures-whole r (closed-source r c) b l) _ _ (omega (arith, bus-rating r b l .1)) (omega (arith, bus-peak-rating r b l .1))

@@ -1,0 +1,309 @@
+// A study of a radial network: started with a voltage tolerance, given bus records and source records one by one, closed.
+// Every call is total: it carries the number of the ground on which it was refused, 0 where it was accepted.
+ghost use mathlib.Core.Path.{_≡_};
+ghost use mathlib.Core.Bool.{true, false};
+ghost use lib.ListN.{length};
+ghost use Rattle.network.specs.Network.{blank, blankSource, network, busAt, sourceAt};
+ghost use Rattle.network.specs.Grounds.{emptyOf, startNumber, startNetwork, busNumber, afterBus, sourceNumber, afterSource, closeNumber, afterClose};
+
+mod bus_grounds;
+mod checks;
+mod source_grounds;
+
+use bus_grounds::bus_record_number;
+use enclosure::amperes::Peak;
+use enclosure::amperes::Rms;
+use source_grounds::source_record_number;
+
+// The buses that a study has room for.
+const BUSES: usize = 64;
+
+// The sources that a study has room for.
+const SOURCES: usize = 256;
+
+// A bus with the branch to its parent. Of a line (kind 1) the fields are r, x, metres, circuits and 0; of a transformer (kind 2)
+// rated volts on the parent's side and on its own, kVA, uk and uR; bus 0 has kind 0 and no branch.
+pub struct Bus {
+    pub parent: u32,
+    pub volts: u32,
+    pub kind: u32,
+    pub f1: u32,
+    pub f2: u32,
+    pub f3: u32,
+    pub f4: u32,
+    pub f5: u32,
+    pub rating: u32,
+    pub peak_rating: u32,
+}
+
+// A source at a bus: feeder (kind 1), generator (2), motor (3) or converter (4), with five fields by its kind.
+pub struct Source {
+    pub kind: u32,
+    pub bus: u32,
+    pub f1: u32,
+    pub f2: u32,
+    pub f3: u32,
+    pub f4: u32,
+    pub f5: u32,
+}
+
+pub struct Study {
+    tolerance: u32,
+    closed: bool,
+    bus_count: usize,
+    buses: [Bus; BUSES],
+    source_count: usize,
+    sources: [Source; SOURCES],
+}
+
+// What a call gives: the number of its ground and the study after it.
+pub struct Answer {
+    pub number: u32,
+    pub study: Study,
+}
+
+// What a bus gets, in amperes: bounds of the machines' and of the converters' current, and their peaks.
+pub struct Amperes {
+    pub lower: Rms,
+    pub upper: Rms,
+    pub converters_lower: Rms,
+    pub converters_upper: Rms,
+    pub peak: Peak,
+    pub converters_peak: Peak,
+}
+
+// A bus against its ratings: within by a margin, over by an excess, or too close to tell.
+pub enum Verdict {
+    Within(f64),
+    Over(f64),
+    Close,
+}
+
+// What a query gives: the number of its ground, the six amperes and the verdict.
+pub struct Found {
+    pub number: u32,
+    pub amperes: Amperes,
+    pub verdict: Verdict,
+}
+
+fn blank_bus() -> Bus
+    ensures { λ r. ⌜ r ≡ blank ⌝ }
+{
+    Bus {
+        parent: 0,
+        volts: 0,
+        kind: 0,
+        f1: 0,
+        f2: 0,
+        f3: 0,
+        f4: 0,
+        f5: 0,
+        rating: 0,
+        peak_rating: 0,
+    }
+}
+
+fn blank_source() -> Source
+    ensures { λ r. ⌜ r ≡ blankSource ⌝ }
+{
+    Source {
+        kind: 0,
+        bus: 0,
+        f1: 0,
+        f2: 0,
+        f3: 0,
+        f4: 0,
+        f5: 0,
+    }
+}
+
+// The number of buses.
+pub fn bus_total(s: Study) -> usize
+    ensures { λ r. ⌜ r ≡ length (network s .buses) ⌝ }
+{
+    if s.bus_count < BUSES {
+        return s.bus_count;
+    }
+    BUSES
+}
+
+// The number of sources.
+pub fn source_total(s: Study) -> usize
+    ensures { λ r. ⌜ r ≡ length (network s .sources) ⌝ }
+{
+    if s.source_count < SOURCES {
+        return s.source_count;
+    }
+    SOURCES
+}
+
+// The record of bus i, blank past the last one.
+pub fn bus_at(s: Study, i: usize) -> Bus
+    ensures { λ r. ⌜ r ≡ busAt (network s .buses) i ⌝ }
+{
+    if s.bus_count <= i {
+        return blank_bus();
+    }
+    if BUSES <= i {
+        return blank_bus();
+    }
+    s.buses[i]
+}
+
+// The record of the source at place j, blank past the last one.
+pub fn source_at(s: Study, j: usize) -> Source
+    ensures { λ r. ⌜ r ≡ sourceAt (network s .sources) j ⌝ }
+{
+    if s.source_count <= j {
+        return blank_source();
+    }
+    if SOURCES <= j {
+        return blank_source();
+    }
+    s.sources[j]
+}
+
+// The voltage tolerance in percent.
+pub fn tolerance_of(s: Study) -> u32
+    ensures { λ r. ⌜ r ≡ network s .tolerance ⌝ }
+{
+    s.tolerance
+}
+
+// Whether the study is closed.
+pub fn is_closed(s: Study) -> bool
+    ensures { λ r. ⌜ r ≡ network s .closed ⌝ }
+{
+    s.closed
+}
+
+// An open study without records.
+fn empty_study(tolerance: u32) -> Study
+    ensures { λ r. ⌜ network r ≡ emptyOf tolerance ⌝ }
+{
+    let bus = blank_bus();
+    let source = blank_source();
+    Study {
+        tolerance,
+        closed: false,
+        bus_count: 0,
+        buses: [bus; BUSES],
+        source_count: 0,
+        sources: [source; SOURCES],
+    }
+}
+
+// A study of this tolerance. Refused: 1 where it is not 6 or 10; then the study has tolerance 6.
+pub fn start(tolerance: u32) -> Answer
+    ensures number { λ r. ⌜ r .number ≡ startNumber tolerance ⌝ }
+    ensures network { λ r. ⌜ network (r .study) ≡ startNetwork tolerance ⌝ }
+{
+    if (tolerance == 6) | (tolerance == 10) {
+        let study = empty_study(tolerance);
+        return Answer { number: 0, study };
+    }
+    let study = empty_study(6);
+    Answer { number: 1, study }
+}
+
+// The ground on which a bus record is refused, 0 where it is accepted. The record is tried at the next place of the array.
+fn bus_number(s: Study, b: Bus) -> u32
+    ensures { λ r. ⌜ r ≡ busNumber (network s) b ⌝ }
+{
+    if s.closed {
+        return 21;
+    }
+    let n = s.bus_count;
+    if BUSES <= n {
+        return 23;
+    }
+    let mut buses = s.buses;
+    buses[n] = b;
+    bus_record_number(buses, n)
+}
+
+// The study with a bus more. Refused: 21 closed, 23 no room, 2 to 9 by the record.
+pub fn add_bus(s: Study, b: Bus) -> Answer
+    ensures number { λ r. ⌜ r .number ≡ busNumber (network s) b ⌝ }
+    ensures kept { λ r. ⌜ ((r .number ≡ 0 → ⊥) → r .study ≡ s) ⌝ }
+    ensures network { λ r. ⌜ network (r .study) ≡ afterBus (network s) b ⌝ }
+{
+    let bus_ground = bus_number(s, b);
+    if bus_ground != 0 {
+        return Answer {
+            number: bus_ground,
+            study: s,
+        };
+    }
+    let n = s.bus_count;
+    let mut next = s;
+    next.buses[n] = b;
+    next.bus_count = n + 1;
+    Answer {
+        number: bus_ground,
+        study: next,
+    }
+}
+
+// The ground on which a source record is refused, 0 where it is accepted.
+fn source_number(s: Study, p: Source) -> u32
+    ensures { λ r. ⌜ r ≡ sourceNumber (network s) p ⌝ }
+{
+    if s.closed {
+        return 21;
+    }
+    let n = s.source_count;
+    if SOURCES <= n {
+        return 24;
+    }
+    source_record_number(s, n, p)
+}
+
+// The study with a source more. Refused: 21 closed, 24 no room, 10 to 14 by the record.
+pub fn add_source(s: Study, p: Source) -> Answer
+    ensures number { λ r. ⌜ r .number ≡ sourceNumber (network s) p ⌝ }
+    ensures kept { λ r. ⌜ ((r .number ≡ 0 → ⊥) → r .study ≡ s) ⌝ }
+    ensures network { λ r. ⌜ network (r .study) ≡ afterSource (network s) p ⌝ }
+{
+    let source_ground = source_number(s, p);
+    if source_ground != 0 {
+        return Answer {
+            number: source_ground,
+            study: s,
+        };
+    }
+    let n = s.source_count;
+    let mut next = s;
+    next.sources[n] = p;
+    next.source_count = n + 1;
+    Answer {
+        number: source_ground,
+        study: next,
+    }
+}
+
+// The study closed. Refused: 21 closed already, 25 without a source.
+pub fn close(s: Study) -> Answer
+    ensures number { λ r. ⌜ r .number ≡ closeNumber (network s) ⌝ }
+    ensures kept { λ r. ⌜ ((r .number ≡ 0 → ⊥) → r .study ≡ s) ⌝ }
+    ensures network { λ r. ⌜ network (r .study) ≡ afterClose (network s) ⌝ }
+{
+    if s.closed {
+        return Answer {
+            number: 21,
+            study: s,
+        };
+    }
+    if s.source_count == 0 {
+        return Answer {
+            number: 25,
+            study: s,
+        };
+    }
+    let mut next = s;
+    next.closed = true;
+    Answer {
+        number: 0,
+        study: next,
+    }
+}

@@ -1,0 +1,179 @@
+-- A walk that changes nothing on its way gathers every bus exactly once, from wherever it starts.
+-- Assumes nothing.
+use Prim.Native.Nat.{ℕ, zero, suc, _+_, _*_, _≤_, _<_}
+use mathlib.Core.Path.{_≡_, refl, sym, _∙_, ap, ap₂}
+use mathlib.Core.Bool.{Bool, true, false}
+use mathlib.Core.Logic.{⊎-elim}
+use native.Mathlib.Omega.{arith}
+use lib.Dec.{ltb, eqb}
+use borrow.Author.Tests.{ltb-true, ltb-false, lt-ltb, le-ltb, eqb-true, eqb-false, eq-eqb, ne-eqb}
+use Rattle.enclosure.specs.Point.{pick}
+use Rattle.tree.specs.Sums.{sums}
+use Rattle.tree.specs.Walk.{joined, near, over, Gather, walk, joined-cases, near-joined, near-parent, over-same, Tree, Enough, enough, more-fuel, by-number, enough-not-zero, enough-next}
+
+abbrev pub plain : (ℕ → ℕ) → Gather ℕ
+plain f = record { own = f; add = _+_; through = λ b i x. x }
+
+over-none : (joins : ℕ → Bool) (g : ℕ → ℕ) (z m : ℕ) → ((i : ℕ) → i < m → joins i ≡ true → ⊥) → over _+_ joins g z m ≡ z
+over-none joins g z zero h = refl
+over-none joins g z (suc m) h = go (joins m) refl (over-none joins g z m (λ i l. h i (omega arith)))
+  where
+    go : (s : Bool) → joins m ≡ s → over _+_ joins g z m ≡ z → pick s (over _+_ joins g z m + g m) (over _+_ joins g z m) ≡ z
+    go true e q = absurd (h m (omega arith) e)
+    go false e q = q
+
+over-start : (joins : ℕ → Bool) (g : ℕ → ℕ) (z c m : ℕ) → over _+_ joins g (z + c) m ≡ over _+_ joins g z m + c
+over-start joins g z c zero = refl
+over-start joins g z c (suc m) = go (joins m) (over-start joins g z c m)
+  where
+    go : (s : Bool) → over _+_ joins g (z + c) m ≡ over _+_ joins g z m + c
+        → pick s (over _+_ joins g (z + c) m + g m) (over _+_ joins g (z + c) m) ≡ pick s (over _+_ joins g z m + g m) (over _+_ joins g z m) + c
+    go true q = omega arith
+    go false q = q
+
+over-one : (joins : ℕ → Bool) (g : ℕ → ℕ) (z u m : ℕ) → u < m → joins u ≡ true → ((i : ℕ) → i < m → joins i ≡ true → i ≡ u) → over _+_ joins g z m ≡ z + g u
+over-one joins g z u zero l t h = absurd (omega arith)
+over-one joins g z u (suc m) l t h = go (joins m) refl (λ k. over-one joins g z u m k t (λ i s. h i (omega arith)))
+  where
+    go : (s : Bool) → joins m ≡ s → (u < m → over _+_ joins g z m ≡ z + g u) → pick s (over _+_ joins g z m + g m) (over _+_ joins g z m) ≡ z + g u
+    go true e q =
+        let k : m ≡ u = h m (omega arith) e in
+        ap₂ _+_ (over-none joins g z m (λ i s j. absurd (omega (arith, h i (omega arith) j)))) (ap g k)
+    go false e q = q (omega (arith, not-last))
+      where
+        not-last : m ≡ u → ⊥
+        not-last k = let c : _≡_ {A = ℕ} 0 1 = cc (ap joins k) in absurd (omega arith)
+
+-- the last bus handed to its parent
+abbrev handed : (ℕ → ℕ) → (ℕ → ℕ) → ℕ → ℕ → ℕ
+handed p f n j = pick (eqb (p n) j) (f j + f n) (f j)
+
+-- a bus below n has bus n for a neighbour exactly where it is its parent
+last-near : (p : ℕ → ℕ) (n b w : ℕ) → b < n → (n ≡ w → ⊥) → near p b w n ≡ eqb (p n) b
+unfolding near joined
+last-near p n b w l m = rw (ne-eqb n w m, le-ltb n b (omega arith), lt-ltb b n l)
+
+sums-handed : (p f : ℕ → ℕ) (n m : ℕ) → (p n < m → sums (handed p f n) m ≡ sums f m + f n) × (m ≤ p n → sums (handed p f n) m ≡ sums f m)
+sums-handed p f n zero = (λ l. absurd (omega arith), λ l. refl)
+sums-handed p f n (suc m) =
+    let r = sums-handed p f n m in
+    (λ l. go (eqb (p n) m) refl (r .0) (r .1) l, λ l. stay l (r .1))
+  where
+    go : (s : Bool) → eqb (p n) m ≡ s → (p n < m → sums (handed p f n) m ≡ sums f m + f n) → (m ≤ p n → sums (handed p f n) m ≡ sums f m)
+        → p n < suc m → sums (handed p f n) m + pick s (f m + f n) (f m) ≡ sums f m + f m + f n
+    go true e q r l = omega (arith, r (omega (arith, eqb-true (p n) m e)))
+    go false e q r l = omega (arith, q (omega (arith, eqb-false (p n) m e)))
+
+    stay : suc m ≤ p n → (m ≤ p n → sums (handed p f n) m ≡ sums f m) → sums (handed p f n) m + handed p f n m ≡ sums f m + f m
+    stay l r = rw (ne-eqb (p n) m (λ e. omega arith)) (ap (λ (x : ℕ). x + f m) (r (omega arith)))
+
+module _ (p : ℕ → ℕ) (D : ℕ) (h : ℕ → ℕ) where
+  -- the last bus has no neighbour but its parent
+  leaf : (f : ℕ → ℕ) (n : ℕ) (k : ℕ) → walk (plain f) p (suc n) k n (p n) ≡ f n
+  leaf f n zero = refl
+  leaf f n (suc k) =
+      over-none (near p n (p n)) (λ i. walk (plain f) p (suc n) k i n) (f n) (suc n)
+      (λ i l e. let j = near-joined p n (p n) i e in ⊎-elim (λ u. j .1 (sym (u .1))) (λ u. absurd (omega arith)) (joined-cases p n i (j .0)))
+
+  smaller-tree : (n : ℕ) → Tree p (suc n) D h → Tree p n D h
+  smaller-tree n t = record { grows = λ i z l. t .grows i z (omega arith); most = λ i l. t .most i (omega arith) }
+
+  -- what a bus below the last gathers, with or without the last bus among its neighbours
+  rest : (f : ℕ → ℕ) (n k b w : ℕ) → b < n → (n ≡ w → ⊥) → ((i : ℕ) → i < n → near p b w i ≡ true → walk (plain f) p (suc n) k i b ≡ walk (plain (handed p f n)) p n k i b)
+      → over _+_ (near p b w) (λ i. walk (plain f) p (suc n) k i b) (f b) (suc n) ≡ over _+_ (near p b w) (λ i. walk (plain (handed p f n)) p n k i b) (handed p f n b) n
+  rest f n k b w l m r = rw (last-near p n b w l m) (go (eqb (p n) b) refl)
+    where
+      g : ℕ → ℕ
+      g i = walk (plain f) p (suc n) k i b
+
+      g′ : ℕ → ℕ
+      g′ i = walk (plain (handed p f n)) p n k i b
+
+      x : ℕ → ℕ
+      x z = over _+_ (near p b w) (λ i. walk (plain f) p (suc n) k i b) z n
+
+      x′ : ℕ → ℕ
+      x′ z = over _+_ (near p b w) (λ i. walk (plain (handed p f n)) p n k i b) z n
+
+      same : (z : ℕ) → x z ≡ x′ z
+      same z = over-same _+_ (near p b w) (near p b w) g g′ z n (λ i l. refl) r
+
+      go : (s : Bool) → eqb (p n) b ≡ s → pick s (x (f b) + g n) (x (f b)) ≡ x′ (pick s (f b + f n) (f b))
+      go true e =
+          let q : p n ≡ b = eqb-true (p n) b e in
+          let u : g n ≡ f n = rw (← q) (leaf f n k) in
+          ap₂ _+_ (same (f b)) u ∙ sym (over-start (near p b w) g′ (f b) (f n) n)
+      go false e = same (f b)
+
+  -- away from the last bus, it may as well be handed to its parent
+  smaller : (f : ℕ → ℕ) (n : ℕ) → Tree p (suc n) D h → (k b w : ℕ) → b < n → (n ≡ w → ⊥) → Enough p D h k b w
+      → walk (plain f) p (suc n) k b w ≡ walk (plain (handed p f n)) p n k b w
+  smaller f n t zero b w l m e = absurd (enough-not-zero p (suc n) D h t b w (omega arith) e)
+  smaller f n t (suc k) b w l m e =
+      rest f n k b w l m (λ i s g. smaller f n t k i b s (λ q. omega arith) (enough-next p (suc n) D h t k b w i (omega arith) (omega arith) g e))
+
+-- ---- from the last bus
+joined-self : (p : ℕ → ℕ) (b : ℕ) → joined p b b ≡ false
+unfolding joined
+joined-self p b = rw (le-ltb b b (omega arith))
+
+near-other : (p : ℕ → ℕ) (b w i : ℕ) → (i ≡ w → ⊥) → near p b w i ≡ joined p b i
+unfolding near
+near-other p b w i h = rw (ne-eqb i w h)
+
+near-none : (p : ℕ → ℕ) (b i : ℕ) → near p b b i ≡ joined p b i
+unfolding near
+near-none p b i = go (eqb i b) refl
+  where
+    go : (s : Bool) → eqb i b ≡ s → pick s false (joined p b i) ≡ joined p b i
+    go true e = rw (eqb-true i b e) (sym (joined-self p b))
+    go false e = refl
+
+near-without : (p : ℕ → ℕ) (b w : ℕ) → near p b w w ≡ false
+unfolding near
+near-without p b w = rw (eq-eqb w w refl)
+
+-- what the parent of the last bus n gathers without n, and n itself
+aside : (p : ℕ → ℕ) (n : ℕ) → p n < n → (g : ℕ → ℕ) (z : ℕ) → g n + over _+_ (near p (p n) n) g z (suc n) ≡ over _+_ (near p (p n) (p n)) g z (suc n)
+aside p n l g z =
+    let q = p n in
+    let e : near p q q n ≡ true = last-near p n q q l (λ x. omega arith) ∙ eq-eqb q q refl in
+    let r = over-same _+_ (near p q n) (near p q q) g g z n (λ i s. near-other p q n i (λ x. omega arith) ∙ sym (near-none p q i)) (λ i s e. refl) in
+    rw (near-without p q n, e) (omega arith)
+
+module _ (p : ℕ → ℕ) (D k : ℕ) (room : 2 * D < suc k) where
+  step : (n : ℕ) → 0 < n → Tree p (suc n) D (λ i. i) → ((f : ℕ → ℕ) (b : ℕ) → b < n → walk (plain f) p n (suc (suc k)) b b ≡ sums f n)
+      → (f : ℕ → ℕ) (b : ℕ) → b < suc n → walk (plain f) p (suc n) (suc (suc k)) b b ≡ sums f (suc n)
+  step n z t ih f b l = go (ltb b n) refl
+    where
+      up : p n < n
+      up = t .grows n z (omega arith)
+
+      below : (c : ℕ) → c < n → walk (plain f) p (suc n) (suc (suc k)) c c ≡ sums f (suc n)
+      below c s =
+          smaller p D (λ i. i) f n t (suc (suc k)) c c s (λ x. omega arith) (enough p (suc n) D (λ i. i) t (suc (suc k)) c c (omega arith) (omega arith))
+          ∙ ih (handed p f n) c s ∙ sums-handed p f n n .0 up
+
+      last : walk (plain f) p (suc n) (suc (suc k)) n n ≡ sums f (suc n)
+      last =
+          over-one (near p n n) (λ i. walk (plain f) p (suc n) (suc k) i n) (f n) (p n) (suc n) (omega (arith, up)) (near-parent p n n up (λ e. omega (arith, up)))
+          (λ i s e. ⊎-elim (λ u. sym (u .1)) (λ u. absurd (omega arith)) (joined-cases p n i (near-joined p n n i e .0)))
+          ∙ ap (λ (x : ℕ). x + walk (plain f) p (suc n) (suc k) (p n) n) (sym (leaf p D (λ i. i) f n k))
+          ∙ aside p n up (λ i. walk (plain f) p (suc n) k i (p n)) (f (p n))
+          ∙ more-fuel (plain f) p (suc n) D (λ i. i) t (suc k) (suc (suc k)) (p n) (p n) (omega (arith, up)) room (omega arith)
+          ∙ below (p n) up
+
+      go : (s : Bool) → ltb b n ≡ s → walk (plain f) p (suc n) (suc (suc k)) b b ≡ sums f (suc n)
+      go true e = below b (ltb-true b n e)
+      go false e = let q : b ≡ n = omega (arith, ltb-false b n e) in rw q last
+
+  -- EVERY BUS ONCE, from wherever the walk starts
+  total : (n : ℕ) → Tree p n D (λ i. i) → (f : ℕ → ℕ) (b : ℕ) → b < n → walk (plain f) p n (suc (suc k)) b b ≡ sums f n
+  total zero t f b l = absurd (omega arith)
+  total (suc zero) t f b l =
+      over-none (near p b b) (λ i. walk (plain f) p 1 (suc k) i b) (f b) 1 (λ i s e. near-joined p b b i e .1 (omega arith)) ∙ (let q : b ≡ 0 = omega arith in rw q (omega arith))
+  total (suc (suc m)) t f b l = step (suc m) (omega arith) t (total (suc m) (smaller-tree p D (λ i. i) (suc m) t)) f b l
+
+pub total-fuel : (p : ℕ → ℕ) (n k : ℕ) → ((i : ℕ) → 0 < i → i < n → p i < i) → 2 * n < k → (f : ℕ → ℕ) (b : ℕ) → b < n → walk (plain f) p n k b b ≡ sums f n
+total-fuel p n k t l f b lb =
+    more-fuel (plain f) p n n (λ i. i) (by-number p n t) k (suc (suc (2 * n))) b b lb l (omega arith) ∙ total p n (2 * n) (omega arith) n (by-number p n t) f b lb

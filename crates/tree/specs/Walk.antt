@@ -1,0 +1,200 @@
+-- A walk over a tree of numbered buses, each but bus 0 with a parent: what is gathered at a bus from every side but one.
+-- One recursion serves exact admittances, those in f64, currents and plain counting.
+-- Assumes nothing.
+use Prim.Native.Nat.{ℕ, zero, suc, _+_, _*_, _-_, _≤_, _<_}
+use mathlib.Core.Path.{_≡_, refl, sym, _∙_, ap, ap₂}
+use mathlib.Core.Bool.{Bool, true, false}
+use mathlib.Core.Logic.{_⊎_, inl, inr, ⊎-elim}
+use native.Mathlib.Omega.{arith}
+use native.Mathlib.Numerals.{add-one}
+use lib.Dec.{ltb, eqb}
+use borrow.Author.Tests.{ltb-true, ltb-false, lt-ltb, eqb-true, eqb-false, eq-eqb, ne-eqb}
+use Rattle.enclosure.specs.Point.{pick}
+
+-- ---- neighbours: p gives the parent of each bus but bus 0, a bus with a smaller number
+unfoldable pub joined : (ℕ → ℕ) → ℕ → ℕ → Bool
+joined p b i = pick (ltb i b) (eqb (p b) i) (pick (ltb b i) (eqb (p i) b) false)
+
+-- "each neighbour n other than a"; without none is w = b, which is no neighbour of b
+unfoldable pub near : (ℕ → ℕ) → ℕ → ℕ → ℕ → Bool
+near p b w i = pick (eqb i w) false (joined p b i)
+
+-- z, and what g gives for each number below n that joins
+abbrev pub over : {A : Type 0} → (A → A → A) → (ℕ → Bool) → (ℕ → A) → A → ℕ → A
+over add joins g z zero = z
+over add joins g z (suc k) = pick (joins k) (add (over add joins g z k) (g k)) (over add joins g z k)
+
+-- what a walk gathers: what a bus has itself, how two parts add up, and what a part at i is at its neighbour b
+pub record Gather (A : Type 0) : Type 0 where
+  pub own : ℕ → A
+  pub add : A → A → A
+  pub through : ℕ → ℕ → A → A
+
+-- what is gathered at b without w, among n buses; the fuel bounds the number of branches passed
+abbrev pub walk : {A : Type 0} → Gather A → (ℕ → ℕ) → ℕ → ℕ → ℕ → ℕ → A
+walk G p n zero b w = G .own b
+walk G p n (suc fuel) b w = over (G .add) (near p b w) (λ i. G .through b i (walk G p n fuel i b)) (G .own b) n
+
+-- ---- laws of neighbours
+pub joined-cases : (p : ℕ → ℕ) (b i : ℕ) → joined p b i ≡ true → ((i < b) × (p b ≡ i)) ⊎ ((b < i) × (p i ≡ b))
+unfolding joined
+joined-cases p b i h = go (ltb i b) (ltb b i) refl refl h
+  where
+    go : (s t : Bool) → ltb i b ≡ s → ltb b i ≡ t → pick s (eqb (p b) i) (pick t (eqb (p i) b) false) ≡ true → ((i < b) × (p b ≡ i)) ⊎ ((b < i) × (p i ≡ b))
+    go true t e f h = inl (ltb-true i b e, eqb-true (p b) i h)
+    go false true e f h = inr (ltb-true b i f, eqb-true (p i) b h)
+    go false false e f h = let z : _≡_ {A = ℕ} 0 1 = cc in absurd (omega arith)
+
+-- by the test that tells a parent from a child
+pub to-parent : (p : ℕ → ℕ) (b i : ℕ) → joined p b i ≡ true → ltb i b ≡ true → (0 < b) × (p b ≡ i)
+to-parent p b i h e = let l = ltb-true i b e in ⊎-elim (λ u. (omega arith, u .1)) (λ u. absurd (omega arith)) (joined-cases p b i h)
+
+pub to-child : (p : ℕ → ℕ) (b i : ℕ) → joined p b i ≡ true → ltb i b ≡ false → (0 < i) × (p i ≡ b)
+to-child p b i h e = let l = ltb-false i b e in ⊎-elim (λ u. absurd (omega arith)) (λ u. (omega arith, u .1)) (joined-cases p b i h)
+
+pub near-joined : (p : ℕ → ℕ) (b w i : ℕ) → near p b w i ≡ true → (joined p b i ≡ true) × (i ≡ w → ⊥)
+unfolding near
+near-joined p b w i h = go (eqb i w) refl h
+  where
+    go : (s : Bool) → eqb i w ≡ s → pick s false (joined p b i) ≡ true → (joined p b i ≡ true) × (i ≡ w → ⊥)
+    go true e h = let z : _≡_ {A = ℕ} 0 1 = cc in absurd (omega arith)
+    go false e h = (h, eqb-false i w e)
+
+-- a bus is joined to its parent
+pub near-parent : (p : ℕ → ℕ) (b w : ℕ) → p b < b → (p b ≡ w → ⊥) → near p b w (p b) ≡ true
+unfolding near joined
+near-parent p b w l h = rw (ne-eqb (p b) w h, lt-ltb (p b) b l) (eq-eqb (p b) (p b) refl)
+
+-- a neighbour by two lists of parents that agree
+near-same : (p p′ : ℕ → ℕ) (b w i : ℕ) → p b ≡ p′ b → p i ≡ p′ i → near p b w i ≡ near p′ b w i
+unfolding near joined
+near-same p p′ b w i e f = rw (e, f)
+
+-- ---- laws of `over`
+pub over-same : {A : Type 0} (add : A → A → A) (joins joins′ : ℕ → Bool) (g g′ : ℕ → A) (z : A) (n : ℕ)
+    → ((i : ℕ) → i < n → joins i ≡ joins′ i) → ((i : ℕ) → i < n → joins i ≡ true → g i ≡ g′ i) → over add joins g z n ≡ over add joins′ g′ z n
+over-same add joins joins′ g g′ z zero j h = refl
+over-same {A} add joins joins′ g g′ z (suc k) j h =
+    rw (← j k (omega arith)) (go (joins k) refl (over-same add joins joins′ g g′ z k (λ i l. j i (omega arith)) (λ i l. h i (omega arith))))
+  where
+    go : (s : Bool) → joins k ≡ s → over add joins g z k ≡ over add joins′ g′ z k
+        → pick s (add (over add joins g z k) (g k)) (over add joins g z k) ≡ pick s (add (over add joins′ g′ z k) (g′ k)) (over add joins′ g′ z k)
+    go true e r = ap₂ add r (h k (omega arith) e)
+    go false e r = r
+
+-- ---- fuel: h is a height that grows from parent to child and is at most D; then 2·D + 1 steps are enough
+pub record Tree (p : ℕ → ℕ) (n D : ℕ) (h : ℕ → ℕ) : Type 0 where
+  pub grows : (i : ℕ) → 0 < i → i < n → h (p i) < h i
+  pub most : (i : ℕ) → i < n → h i ≤ D
+
+-- k steps are enough at b without w: for the way up and down again, or for the way down
+abbrev pub Enough : (ℕ → ℕ) → ℕ → (ℕ → ℕ) → ℕ → ℕ → ℕ → Type 0
+Enough p D h k b w = (D + h b < k) ⊎ ((w ≡ p b) × (D < k + h b))
+
+module _ (p : ℕ → ℕ) (n D : ℕ) (h : ℕ → ℕ) (t : Tree p n D h) where
+  pub enough-not-zero : (b w : ℕ) → b < n → Enough p D h 0 b w → ⊥
+  enough-not-zero b w l = ⊎-elim (λ e. omega arith) (λ e. omega (arith, t .most b l))
+
+  pub enough-next : (k b w i : ℕ) → b < n → i < n → near p b w i ≡ true → Enough p D h (suc k) b w → Enough p D h k i b
+  enough-next k b w i l m e f = ⊎-elim up down (joined-cases p b i (near-joined p b w i e .0))
+    where
+      up : (i < b) × (p b ≡ i) → Enough p D h k i b
+      up u = ⊎-elim
+          (λ g. inl (let z : h i < h b = rw (u .1) at (t .grows b (omega arith) l) in omega arith))
+          (λ g. absurd (near-joined p b w i e .1 (sym (u .1) ∙ sym (g .0))))
+          f
+
+      down : (b < i) × (p i ≡ b) → Enough p D h k i b
+      down u =
+          let z : h b < h i = rw (u .1) at (t .grows i (omega arith) m) in
+          inr (sym (u .1), ⊎-elim (λ g. omega arith) (λ g. omega arith) f)
+
+  pub enough : (k b w : ℕ) → b < n → 2 * D < k → Enough p D h k b w
+  enough k b w l e = inl (omega (arith, t .most b l))
+
+module _ {A : Type 0} (G : Gather A) (p : ℕ → ℕ) (n D : ℕ) (h : ℕ → ℕ) (t : Tree p n D h) where
+  -- any two fuels that are enough give the same
+  fuel-same : (j k b w : ℕ) → b < n → Enough p D h j b w → Enough p D h k b w → walk G p n j b w ≡ walk G p n k b w
+  fuel-same zero k b w l e f = absurd (enough-not-zero p n D h t b w l e)
+  fuel-same (suc j) zero b w l e f = absurd (enough-not-zero p n D h t b w l f)
+  fuel-same (suc j) (suc k) b w l e f =
+      over-same (G .add) (near p b w) (near p b w) (λ i. G .through b i (walk G p n j i b)) (λ i. G .through b i (walk G p n k i b)) (G .own b) n
+      (λ i m. refl) (λ i m g. ap (G .through b i) (fuel-same j k i b m (enough-next p n D h t j b w i l m g e) (enough-next p n D h t k b w i l m g f)))
+
+  -- MORE FUEL CHANGES NOTHING
+  pub more-fuel : (j k b w : ℕ) → b < n → 2 * D < j → 2 * D < k → walk G p n j b w ≡ walk G p n k b w
+  more-fuel j k b w l e f = fuel-same j k b w l (enough p n D h t j b w l e) (enough p n D h t k b w l f)
+
+  -- the walk satisfies the equation that has no fuel
+  pub walk-equation : (k b w : ℕ) → b < n → 2 * D < k
+      → walk G p n k b w ≡ over (G .add) (near p b w) (λ i. G .through b i (walk G p n k i b)) (G .own b) n
+  walk-equation k b w l e = more-fuel k (suc k) b w l e (omega arith)
+
+  -- and whatever satisfies that equation is the walk
+  only : (S : ℕ → ℕ → A)
+      → ((b w : ℕ) → b < n → S b w ≡ over (G .add) (near p b w) (λ i. G .through b i (S i b)) (G .own b) n)
+      → (k b w : ℕ) → b < n → Enough p D h k b w → S b w ≡ walk G p n k b w
+  only S q zero b w l e = absurd (enough-not-zero p n D h t b w l e)
+  only S q (suc k) b w l e =
+      q b w l
+      ∙ over-same (G .add) (near p b w) (near p b w) (λ i. G .through b i (S i b)) (λ i. G .through b i (walk G p n k i b)) (G .own b) n
+      (λ i m. refl) (λ i m g. ap (G .through b i) (only S q k i b m (enough-next p n D h t k b w i l m g e)))
+
+  pub only-walk : (S : ℕ → ℕ → A)
+      → ((b w : ℕ) → b < n → S b w ≡ over (G .add) (near p b w) (λ i. G .through b i (S i b)) (G .own b) n)
+      → (k b w : ℕ) → b < n → 2 * D < k → S b w ≡ walk G p n k b w
+  only-walk S q k b w l e = only S q k b w l (enough p n D h t k b w l e)
+
+-- the bus number is such a height
+pub by-number : (p : ℕ → ℕ) (n : ℕ) → ((i : ℕ) → 0 < i → i < n → p i < i) → Tree p n n (λ i. i)
+by-number p n h = record { grows = h; most = λ i l. omega arith }
+
+-- ---- two walks over the same tree that are related bus by bus
+module _ {A B : Type 0} (G : Gather A) (H : Gather B) (p : ℕ → ℕ) (n : ℕ) (R : ℕ → A → B → Type 0)
+    (own : (b : ℕ) → b < n → R b (G .own b) (H .own b))
+    (adds : (b : ℕ) (x x′ : A) (y y′ : B) → b < n → R b x y → R b x′ y′ → R b (G .add x x′) (H .add y y′))
+    (comes : (b i : ℕ) (x : A) (y : B) → b < n → i < n → joined p b i ≡ true → R i x y → R b (G .through b i x) (H .through b i y)) where
+  over-related : (b : ℕ) → b < n → (joins : ℕ → Bool) (f : ℕ → A) (g : ℕ → B) (x : A) (y : B) (m : ℕ) → R b x y
+      → ((i : ℕ) → i < m → joins i ≡ true → R b (f i) (g i)) → R b (over (G .add) joins f x m) (over (H .add) joins g y m)
+  over-related b l joins f g x y zero r h = r
+  over-related b l joins f g x y (suc m) r h = go (joins m) refl (over-related b l joins f g x y m r (λ i s. h i (omega arith)))
+    where
+      go : (s : Bool) → joins m ≡ s → R b (over (G .add) joins f x m) (over (H .add) joins g y m)
+          → R b (pick s (G .add (over (G .add) joins f x m) (f m)) (over (G .add) joins f x m)) (pick s (H .add (over (H .add) joins g y m) (g m)) (over (H .add) joins g y m))
+      go true e q = adds b _ _ _ _ l q (h m (omega arith) e)
+      go false e q = q
+
+  pub walk-related : (fuel b w : ℕ) → b < n → R b (walk G p n fuel b w) (walk H p n fuel b w)
+  walk-related zero b w l = own b l
+  walk-related (suc fuel) b w l =
+      over-related b l (near p b w) (λ i. G .through b i (walk G p n fuel i b)) (λ i. H .through b i (walk H p n fuel i b)) (G .own b) (H .own b) n (own b l)
+      (λ i m g. comes b i _ _ l m (near-joined p b w i g .0) (walk-related fuel i b m))
+
+-- the same walk, where parents, what the buses have and what comes through agree bus by bus
+pub walk-same : {A : Type 0} (add : A → A → A) (own own′ : ℕ → A) (through through′ : ℕ → ℕ → A → A) (p p′ : ℕ → ℕ) (n : ℕ)
+    → ((b : ℕ) → b < n → p b ≡ p′ b) → ((b : ℕ) → b < n → own b ≡ own′ b)
+    → ((b i : ℕ) (x : A) → b < n → i < n → joined p b i ≡ true → through b i x ≡ through′ b i x)
+    → (fuel b w : ℕ) → b < n
+    → walk (record { own = own; add = add; through = through }) p n fuel b w ≡ walk (record { own = own′; add = add; through = through′ }) p′ n fuel b w
+walk-same add own own′ through through′ p p′ n hp ho ht zero b w l = ho b l
+walk-same {A} add own own′ through through′ p p′ n hp ho ht (suc fuel) b w l =
+    rw (← ho b l)
+    (over-same add (near p b w) (near p′ b w) (λ i. through b i (here fuel i b)) (λ i. through′ b i (there fuel i b)) (own b) n
+    (λ i m. near-same p p′ b w i (hp b l) (hp i m))
+    (λ i m e. ht b i (here fuel i b) l m (near-joined p b w i e .0) ∙ ap (through′ b i) (walk-same add own own′ through through′ p p′ n hp ho ht fuel i b m)))
+  where
+    here : ℕ → ℕ → ℕ → A
+    here = walk (record { own = own; add = add; through = through }) p n
+
+    there : ℕ → ℕ → ℕ → A
+    there = walk (record { own = own′; add = add; through = through′ }) p′ n
+
+-- ---- for code: one more bus in a loop, and one more step of a recursion
+pub over-more : {A : Type 0} (add : A → A → A) (joins : ℕ → Bool) (g : ℕ → A) (z : A) (i : ℕ)
+    → over add joins g z (i + 1) ≡ pick (joins i) (add (over add joins g z i) (g i)) (over add joins g z i)
+over-more add joins g z i = rw add-one
+
+pub walk-more : {A : Type 0} (G : Gather A) (p : ℕ → ℕ) (n fuel b w : ℕ) → (fuel ≡ 0 → ⊥)
+    → walk G p n fuel b w ≡ over (G .add) (near p b w) (λ i. G .through b i (walk G p n (fuel - 1) i b)) (G .own b) n
+walk-more G p n zero b w h = absurd (h refl)
+walk-more G p n (suc f) b w h = let e : suc f - 1 ≡ f = omega arith in rw e
