@@ -8,6 +8,7 @@ ghost use Rattle.network.specs.Grounds.{emptyOf, startNumber, startNetwo
 
 mod bus_grounds;
 mod checks;
+mod records;
 mod source_grounds;
 
 use bus_grounds::bus_record_number;
