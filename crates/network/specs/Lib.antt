@@ -12,3 +12,4 @@ pub mod Demand
 pub mod Rounded
 pub mod Verdict
 pub mod Query
+pub mod Tables

@@ -8,6 +8,7 @@ ghost use Rattle.network.specs.Grounds.{emptyOf, startNumber, startNetwo
 
 mod bus_grounds;
 mod checks;
+mod columns;
 mod records;
 mod source_grounds;
 
