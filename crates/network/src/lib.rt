@@ -11,6 +11,7 @@ mod checks;
 mod columns;
 mod records;
 mod source_grounds;
+mod walk;
 
 use bus_grounds::bus_record_number;
 use enclosure::amperes::Peak;
