@@ -1,2 +1,3 @@
 mod Chain
+mod Filling
 mod Lists

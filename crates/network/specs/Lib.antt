@@ -20,3 +20,4 @@ pub mod Claim
 pub mod Same
 pub mod VerdictLaw
 pub mod Worked
+pub mod Tables

@@ -8,7 +8,10 @@ ghost use Rattle.network.specs.Grounds.{emptyOf, startNumber, startNetwo
 
 mod bus_grounds;
 mod checks;
+mod columns;
+mod records;
 mod source_grounds;
+mod walk;
 
 use bus_grounds::bus_record_number;
 use enclosure::amperes::Peak;

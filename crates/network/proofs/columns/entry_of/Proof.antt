@@ -1,0 +1,48 @@
+use borrow.Author.Needs.{needs}
+use Rattle.network.proofs.columns.entry_of.Statement.{statement}
+use Rattle.network.proofs.columns.entry_of.Tie as tie
+
+enum-told : tie.Need-enum-told
+enum-told c = search needs
+
+enum-told-2 : tie.Need-enum-told-2
+enum-told-2 c = search needs
+
+enum-told-3 : tie.Need-enum-told-3
+enum-told-3 c = search needs
+
+rated-above-requires : tie.Need-rated-above-requires
+rated-above-requires c κs = search needs
+
+enum-told-4 : tie.Need-enum-told-4
+enum-told-4 c = search needs
+
+rated-below-requires : tie.Need-rated-below-requires
+rated-below-requires c κs = search needs
+
+returns : tie.Need-returns
+returns c = search needs
+
+returns-2 : tie.Need-returns-2
+returns-2 c = search needs
+
+returns-3 : tie.Need-returns-3
+returns-3 c = rw (c .before .enum-told3 .given .1) (c .rated-above .ensures)
+
+returns-4 : tie.Need-returns-4
+returns-4 c = rw (c .before .enum-told4 .given .1) (c .rated-below .ensures)
+
+pub entry-of-spec : {M : Type 1} → statement M
+entry-of-spec =
+    tie.close
+    (tie.spec
+    enum-told
+    enum-told-2
+    enum-told-3
+    rated-above-requires
+    enum-told-4
+    rated-below-requires
+    returns
+    returns-2
+    returns-3
+    returns-4)

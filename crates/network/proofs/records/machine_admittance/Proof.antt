@@ -1,0 +1,59 @@
+use borrow.Author.Tests.{ne-eqb}
+use Rattle.network.specs.Rounded.{admittanceBy}
+use borrow.Author.Needs.{needs}
+use Rattle.network.proofs.records.machine_admittance.Statement.{statement}
+use Rattle.network.proofs.records.machine_admittance.Tie as tie
+
+feeder-requires : tie.Need-feeder-requires
+feeder-requires c κs = search needs
+
+inverse-requires : tie.Need-inverse-requires
+inverse-requires c κs = search needs
+
+generator-requires : tie.Need-generator-requires
+generator-requires c κs = search needs
+
+inverse-requires-2 : tie.Need-inverse-requires-2
+inverse-requires-2 c κs = search needs
+
+motor-requires : tie.Need-motor-requires
+motor-requires c κs = search needs
+
+inverse-requires-3 : tie.Need-inverse-requires-3
+inverse-requires-3 c κs = search needs
+
+nothing-requires : tie.Need-nothing-requires
+nothing-requires c κs = search needs
+
+returns : tie.Need-returns
+unfolding admittanceBy
+returns c = rw (c .before .before .match .keys1, ← c .before .feeder .ensures) (c .inverse .ensures)
+
+returns-2 : tie.Need-returns-2
+unfolding admittanceBy
+returns-2 c = rw (c .before .before .match .keys2, ← c .before .generator .ensures) (c .inverse2 .ensures)
+
+returns-3 : tie.Need-returns-3
+unfolding admittanceBy
+returns-3 c = rw (c .before .before .match .keys3, ← c .before .motor .ensures) (c .inverse3 .ensures)
+
+returns-4 : tie.Need-returns-4
+unfolding admittanceBy
+returns-4 c =
+    rw (ne-eqb _ 1 (c .before .match .rest .0 .0 .1), ne-eqb _ 2 (c .before .match .rest .0 .1), ne-eqb _ 3 (c .before .match .rest .1)) (c .nothing .ensures)
+
+pub machine-admittance-spec : {M : Type 1} → statement M
+machine-admittance-spec =
+    tie.close
+    (tie.spec
+    feeder-requires
+    inverse-requires
+    generator-requires
+    inverse-requires-2
+    motor-requires
+    inverse-requires-3
+    nothing-requires
+    returns
+    returns-2
+    returns-3
+    returns-4)

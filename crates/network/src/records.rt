@@ -1,0 +1,77 @@
+// What a record stands for in the tree: a branch's impedance and rated volts, a machine's admittance, a converter's current.
+ghost use mathlib.Core.Path.{_≡_};
+ghost use Prim.Native.Nat.{min};
+ghost use Rattle.network.specs.declared.Bus.{Bus};
+ghost use Rattle.network.specs.Grid.{aboveOf, belowOf};
+ghost use Rattle.network.specs.Rounded.{branchBy, admittanceBy, suppliedBy};
+use crate::Bus;
+use crate::Source;
+use elements::impedances::converter;
+use elements::impedances::feeder;
+use elements::impedances::generator;
+use elements::impedances::line;
+use elements::impedances::motor;
+use elements::impedances::transformer;
+use enclosure::Complex;
+use enclosure::inverse;
+use enclosure::nothing;
+
+// The lower of two nominal voltages.
+fn lower_volts(a: u32, b: u32) -> u32
+    ensures { λ r. ⌜ r ≡ min a b ⌝ }
+{
+    if a < b { a } else { b }
+}
+
+// The impedance of a bus's branch on the bus's own side, by the nominal volts of its parent; nothing at bus 0.
+pub fn branch_impedance(tolerance: u32, parent_volts: u32, b: Bus) -> Complex
+    ensures { λ z. ⌜ ((parent : Bus) → parent .volts ≡ «parent_volts» → z ≡ branchBy tolerance parent b) ⌝ }
+{
+    let kind = b.kind;
+    match kind {
+        1 => line(b.f1, b.f2, b.f3, b.f4),
+        2 => transformer(
+            tolerance,
+            lower_volts(parent_volts, b.volts),
+            b.f2,
+            b.f3,
+            b.f4,
+            b.f5,
+        ),
+        _ => nothing(),
+    }
+}
+
+// Rated volts of a bus's branch on the parent's side; 1 for a line.
+pub fn rated_above(b: Bus) -> u32
+    ensures { λ r. ⌜ r ≡ aboveOf b ⌝ }
+{
+    if b.kind == 2 { b.f1 } else { 1 }
+}
+
+// Rated volts of a bus's branch on the bus's own side; 1 for a line.
+pub fn rated_below(b: Bus) -> u32
+    ensures { λ r. ⌜ r ≡ belowOf b ⌝ }
+{
+    if b.kind == 2 { b.f2 } else { 1 }
+}
+
+// The admittance of a feeder, generator or motor at a bus of these nominal volts.
+pub fn machine_admittance(tolerance: u32, volts: u32, p: Source) -> Complex
+    ensures { λ y. ⌜ y ≡ admittanceBy tolerance volts p ⌝ }
+{
+    let kind = p.kind;
+    match kind {
+        1 => inverse(feeder(tolerance, volts, p.f1, p.f2)),
+        2 => inverse(generator(tolerance, volts, p.f1, p.f2, p.f3, p.f4, p.f5)),
+        3 => inverse(motor(p.f1, p.f2, p.f3, p.f4)),
+        _ => nothing(),
+    }
+}
+
+// The current that a converter supplies.
+pub fn converter_current(p: Source) -> Complex
+    ensures { λ x. ⌜ x ≡ suppliedBy p ⌝ }
+{
+    converter(p.f1, p.f2)
+}
