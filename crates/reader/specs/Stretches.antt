@@ -2,13 +2,14 @@
 use mathlib.Core.Path.{_≡_, refl, ap, sym, _∙_}
 use mathlib.Core.Bool.{Bool, true, false, cond, _&&_}
 use mathlib.Core.List.{List, [], _∷_}
-use Prim.Native.Nat.{ℕ, suc, _+_, _≤_, _<_}
+use Prim.Native.Nat.{ℕ, suc, _+_, _-_, _≤_, _<_}
 use native.Mathlib.Omega.{arith}
 use native.Mathlib.Numerals.{add-one}
-use native.Mathlib.Nat.{suc-add}
+use native.Mathlib.Nat.{suc-add, add-assoc}
+use borrow.Author.Tests.{leb-true, leb-false, le-leb, lt-leb}
 use lib.Dec.{leb, eqb, leb·zero, leb·suc-suc}
-use lib.ListN.{length, take, drop, getD, drop-of-length-le}
-use lib.Seq.{drop-cons}
+use lib.ListN.{length, take, drop, getD, drop-of-length-le, length-drop}
+use lib.Seq.{drop-cons, drop-drop, length-take-le}
 use Rattle.network.specs.Tests.{by-test}
 use Rattle.reader.specs.File.{rows, fields, onFirst}
 
@@ -68,3 +69,18 @@ fields-step (b ∷ bs) =
     by-test (eqb b 44)
     (λ t. rw (t, from-next b bs 0, leb·zero (length bs)))
     (λ t. rw (t, fields-step bs, suc-add (before atComma bs) 1, from-next b bs (before atComma bs + 1)))
+
+from-drop : (l : List ℕ) (at k : ℕ) → at ≤ length l → fieldsFrom (drop at l) k ≡ fieldsFrom l (at + k)
+from-drop l at k h =
+    by-test (leb (at + k) (length l))
+    (λ t. rw (t, length-drop at l, le-leb k (length l - at) (omega (arith, leb-true (at + k) (length l) t)), drop-drop k at l))
+    (λ t. rw (t, length-drop at l, lt-leb k (length l - at) (omega (arith, leb-false (at + k) (length l) t))))
+
+-- the fields from a place on are the one that begins there and those after its comma
+pub from-step : (l : List ℕ) (at : ℕ) → at ≤ length l → fieldsFrom l at ≡ stretch atComma (drop at l) ∷ fieldsFrom l (at + before atComma (drop at l) + 1)
+from-step l at h =
+    let n = before atComma (drop at l) in
+    rw (le-leb at (length l) h, fields-step (drop at l), from-drop l at (n + 1) h, add-assoc at n 1)
+
+pub length-stretch : (stop : List ℕ → Bool) (l : List ℕ) → length (stretch stop l) ≡ before stop l
+length-stretch stop l = length-take-le (before stop l) l (before-le stop l)

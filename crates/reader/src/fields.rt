@@ -1,9 +1,11 @@
 ghost use mathlib.Core.Path.{_≡_};
 ghost use Prim.Native.Nat.{_+_, _≤_};
 ghost use lib.ListN.{length, drop};
-ghost use Rattle.reader.specs.File.{lengthOk, valueOf, numberOf};
+ghost use Rattle.reader.specs.File.{fields, lengthOk, valueOf, numberOf};
 ghost use Rattle.reader.specs.Stretches.{atComma, before, stretch};
+ghost use Rattle.reader.specs.Gathered.{Gathered};
 use crate::Number;
+use crate::Numbers;
 
 // Where the field that begins at a place ends: at its comma, or with the row.
 fn field_end(row: &[u8], at: usize) -> usize
@@ -83,4 +85,28 @@ pub fn number_of(field: &[u8]) -> Number
         return value(field);
     }
     Number::Broken
+}
+
+// The numbers of a row's fields, in order. Not ok where a field is no number or where there are more than ten.
+pub fn numbers_of(row: &[u8]) -> Numbers
+    ensures { λ r. ⌜ Gathered (fields (now (row .entry))) r ⌝ }
+{
+    let mut values = [0u32; 10];
+    let mut count: usize = 0;
+    let mut at: usize = 0;
+    while at <= row.len() {
+        let part = field(row, at);
+        let next = at + part.len() + 1;
+        let number = number_of(part);
+        let Number::Value(n) = number else {
+            return Numbers { ok: false, count, values };
+        };
+        if 10 <= count {
+            return Numbers { ok: false, count, values };
+        }
+        values[count] = n;
+        count += 1;
+        at = next;
+    }
+    Numbers { ok: true, count, values }
 }
