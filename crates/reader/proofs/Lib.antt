@@ -1,2 +1,4 @@
 mod Bytes
 mod Gathering
+mod Records
+mod Taking
