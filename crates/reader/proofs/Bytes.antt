@@ -1,0 +1,68 @@
+-- What the byte at a place says of the bytes from there on: of a line end, a comma, a digit.
+use mathlib.Core.Path.{_≡_, refl, sym, _∙_}
+use mathlib.Core.Bool.{Bool, true, false, _&&_}
+use mathlib.Core.List.{List, [], _∷_}
+use Prim.Native.Nat.{ℕ, suc, _+_, _*_, _-_, _^_, _≤_, _<_}
+use native.Mathlib.Omega.{arith}
+use native.Mathlib.Numerals.{add-one}
+use borrow.Author.Tests.{eq-eqb, ne-eqb, lt-ltb, le-ltb, le-leb, lt-leb}
+use lib.Dec.{leb, ltb, eqb}
+use lib.ListN.{length, drop, getD, drop-of-length-le}
+use lib.Seq.{drop-cons}
+use Rattle.network.specs.Records.{within}
+use Rattle.network.specs.Tests.{by-test}
+use Rattle.reader.specs.declared.Number.the-variants.{Value, Broken}
+use Rattle.reader.specs.File.{digits, decimal, valueOf}
+use Rattle.reader.specs.Stretches.{atCrlf, atComma}
+
+no-cr : (b : ℕ) (bs : List ℕ) → (b ≡ 13 → ⊥) → atCrlf (b ∷ bs) ≡ false
+no-cr b [] h = refl
+no-cr b (c ∷ bs) h = rw (ne-eqb b 13 h)
+
+module _ (l : List ℕ) (i : ℕ) (h : i < length l) where
+  pub crlf-other : (getD l i 0 ≡ 13 → ⊥) → atCrlf (drop i l) ≡ false
+  crlf-other e = rw (drop-cons l i 0 h) (no-cr (getD l i 0) (drop (suc i) l) e)
+
+  pub crlf-last : length l ≤ i + 1 → atCrlf (drop i l) ≡ false
+  crlf-last e =
+      let k : length l ≤ suc i = omega arith in
+      rw (drop-cons l i 0 h, drop-of-length-le l k)
+
+  pub crlf-next : i + 1 < length l → getD l i 0 ≡ 13 → atCrlf (drop i l) ≡ eqb (getD l (i + 1) 0) 10
+  crlf-next e cr =
+      let k : suc i < length l = omega arith in
+      rw (drop-cons l i 0 h, drop-cons l (suc i) 0 k, cr, add-one i)
+
+  pub comma-here : atComma (drop i l) ≡ eqb (getD l i 0) 44
+  comma-here = rw (drop-cons l i 0 h)
+
+  -- a byte that is no digit
+  pub digits-low : getD l i 0 < 48 → digits (drop i l) ≡ false
+  digits-low e = rw (drop-cons l i 0 h, lt-leb 48 (getD l i 0) e)
+
+  pub digits-high : 57 < getD l i 0 → digits (drop i l) ≡ false
+  digits-high e = rw (drop-cons l i 0 h, le-leb 48 (getD l i 0) (omega arith), lt-leb (getD l i 0) 57 e)
+
+  pub digits-more : 48 ≤ getD l i 0 → getD l i 0 ≤ 57 → digits (drop i l) ≡ digits (drop (i + 1) l)
+  digits-more p q = rw (add-one i, drop-cons l i 0 h, le-leb 48 (getD l i 0) p, le-leb (getD l i 0) 57 q)
+
+  pub decimal-more : (n : ℕ) → decimal n (drop i l) ≡ decimal (10 * n + (getD l i 0 - 48)) (drop (i + 1) l)
+  decimal-more n = rw (add-one i, drop-cons l i 0 h)
+
+-- further digits do not lower a number
+pub decimal-least : (n : ℕ) (l : List ℕ) → n ≤ decimal n l
+decimal-least n [] = omega arith
+decimal-least n (b ∷ bs) = omega (arith, decimal-least (10 * n + (b - 48)) bs)
+
+-- the three outcomes of reading digits
+pub value-other : (f : List ℕ) → digits f ≡ false → valueOf f ≡ Broken
+unfolding valueOf
+value-other f e = rw e
+
+pub value-large : (f : List ℕ) → 2 ^ 32 ≤ decimal 0 f → valueOf f ≡ Broken
+unfolding valueOf
+value-large f h = by-test (digits f) (λ t. rw (t, le-ltb (decimal 0 f) (2 ^ 32) h)) (λ t. rw t)
+
+pub value-small : (f : List ℕ) (n : ℕ) → digits f ≡ true → decimal 0 f ≡ n → n < 2 ^ 32 → valueOf f ≡ Value n
+unfolding valueOf
+value-small f n t e h = rw (t, e, lt-ltb n (2 ^ 32) h)

@@ -1,0 +1,4 @@
+mod Bytes
+mod Gathering
+mod Records
+mod Taking

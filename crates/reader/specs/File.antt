@@ -1,0 +1,161 @@
+-- What the text of a file means, by document 01, "The file": its rows, their fields and numbers, the records that these give, and
+-- the outcome of taking them in order.
+use mathlib.Core.Bool.{Bool, true, false, not, cond, _&&_, _||_}
+use mathlib.Core.List.{List, [], _∷_}
+use Prim.Native.Nat.{ℕ, _+_, _*_, _-_, _^_}
+use lib.Dec.{ltb, eqb}
+use lib.ListN.{length, getD}
+use Rattle.network.specs.declared.Bus.{Bus}
+use Rattle.network.specs.declared.Source.{Source}
+use Rattle.network.specs.Records.{within}
+use Rattle.network.specs.Network.{Network}
+use Rattle.network.specs.Grounds.{startNumber, startNetwork, busNumber, afterBus, sourceNumber, afterSource, closeNumber, afterClose}
+use Rattle.network.specs.Calls.{emptyNetwork}
+use Rattle.reader.specs.declared.Number.{Number}
+use Rattle.reader.specs.declared.Number.the-variants.{Value, Broken}
+use Rattle.reader.specs.declared.Row.{Row}
+use Rattle.reader.specs.declared.Row.the-variants.{Start, WithBus, WithSource, Malformed}
+
+-- ---- rows and fields
+-- a byte put before the first of the stretches that follow it
+abbrev pub onFirst : ℕ → List (List ℕ) → List (List ℕ)
+onFirst b [] = (b ∷ []) ∷ []
+onFirst b (r ∷ rs) = (b ∷ r) ∷ rs
+
+-- "CRLF line ends (last optional)": after a last CRLF no row follows. A CR or an LF alone is a byte of its row.
+abbrev pub rows : List ℕ → List (List ℕ)
+rows [] = []
+rows (b ∷ []) = (b ∷ []) ∷ []
+rows (b ∷ c ∷ bs) = cond (eqb b 13 && eqb c 10) ([] ∷ rows bs) (onFirst b (rows (c ∷ bs)))
+
+-- "A field is taken as the stretch of the file's own bytes between its commas."
+abbrev pub fields : List ℕ → List (List ℕ)
+fields [] = [] ∷ []
+fields (b ∷ bs) = cond (eqb b 44) ([] ∷ fields bs) (onFirst b (fields bs))
+
+-- ---- numbers
+-- "A number is 1 to 10 digits, no leading zero save 0 itself, below 2³².": the length and the first digit
+unfoldable pub lengthOk : List ℕ → Bool
+lengthOk f = within (length f) 1 10 && (eqb (length f) 1 || not (eqb (getD f 0 0) 48))
+
+abbrev pub digits : List ℕ → Bool
+digits [] = true
+digits (b ∷ bs) = within b 48 57 && digits bs
+
+-- the number that digits make after those of n
+abbrev pub decimal : ℕ → List ℕ → ℕ
+decimal n [] = n
+decimal n (b ∷ bs) = decimal (10 * n + (b - 48)) bs
+
+unfoldable pub valueOf : List ℕ → Number
+valueOf f = cond (digits f && ltb (decimal 0 f) (2 ^ 32)) (Value (decimal 0 f)) Broken
+
+-- a field that is a number, and any other
+unfoldable pub numberOf : List ℕ → Number
+numberOf f = cond (lengthOk f) (valueOf f) Broken
+
+-- the two cases of `Number`: whether it is one, and which
+abbrev pub isNumber : Number → Bool
+isNumber (Value n) = true
+isNumber Broken = false
+
+abbrev pub amount : Number → ℕ
+amount (Value n) = n
+amount Broken = 0
+
+abbrev pub allNumbers : List (List ℕ) → Bool
+allNumbers [] = true
+allNumbers (f ∷ fs) = isNumber (numberOf f) && allNumbers fs
+
+abbrev pub amounts : List (List ℕ) → List ℕ
+amounts [] = []
+amounts (f ∷ fs) = amount (numberOf f) ∷ amounts fs
+
+-- ---- records
+-- "Bus record, ten fields", in their order
+abbrev pub busOf : List ℕ → Bus
+busOf v = record {
+  parent = getD v 0 0;
+  volts = getD v 1 0;
+  kind = getD v 2 0;
+  f1 = getD v 3 0;
+  f2 = getD v 4 0;
+  f3 = getD v 5 0;
+  f4 = getD v 6 0;
+  f5 = getD v 7 0;
+  rating = getD v 8 0;
+  «peak_rating» = getD v 9 0;
+}
+
+-- "Source record, seven fields", in their order
+abbrev pub sourceOf : List ℕ → Source
+sourceOf v = record {
+  kind = getD v 0 0;
+  bus = getD v 1 0;
+  f1 = getD v 2 0;
+  f2 = getD v 3 0;
+  f3 = getD v 4 0;
+  f4 = getD v 5 0;
+  f5 = getD v 6 0;
+}
+
+-- "Row 1 is `S,tolerance`; then `B,` with ten fields or `P,` with seven, in any mixture.": by whether the row is the first, its
+-- letter and its numbers
+unfoldable pub recordOf : Bool → ℕ → List ℕ → Row
+recordOf true letter v = cond (eqb letter 83 && eqb (length v) 1) (Start (getD v 0 0)) Malformed
+recordOf false letter v =
+    cond (eqb letter 66 && eqb (length v) 10) (WithBus (busOf v))
+    (cond (eqb letter 80 && eqb (length v) 7) (WithSource (sourceOf v)) Malformed)
+
+unfoldable pub fieldsRow : Bool → ℕ → List (List ℕ) → Row
+fieldsRow first letter fs = cond (allNumbers fs) (recordOf first letter (amounts fs)) Malformed
+
+-- a row: a letter, a comma, and fields that are all numbers
+unfoldable pub rowOf : Bool → List ℕ → Row
+rowOf first [] = Malformed
+rowOf first (letter ∷ []) = Malformed
+rowOf first (letter ∷ comma ∷ rest) = cond (eqb comma 44) (fieldsRow first letter (fields rest)) Malformed
+
+-- ---- the four cases of `Row`: the number that a row is refused with, 0 where it is accepted, and the network after it
+-- "16 text breaks the file form: given for that row before its record is tried"
+abbrev pub rowNumber : Network → Row → ℕ
+rowNumber n (Start t) = startNumber t
+rowNumber n (WithBus b) = busNumber n b
+rowNumber n (WithSource p) = sourceNumber n p
+rowNumber n Malformed = 16
+
+abbrev pub afterRow : Network → Row → Network
+afterRow n (Start t) = startNetwork t
+afterRow n (WithBus b) = afterBus n b
+afterRow n (WithSource p) = afterSource n p
+afterRow n Malformed = n
+
+-- ---- the whole text
+pub record Outcome : Type 0 where
+  pub number : ℕ
+  pub row : ℕ
+  pub network : Network
+
+-- "giving number and row (from 1), and an empty open study of tolerance 6"
+abbrev pub refusedAt : ℕ → ℕ → Outcome
+refusedAt number row = record { number = number; row = row; network = emptyNetwork }
+
+-- "An accepted call carries number 0, an accepted file also row 0."
+abbrev pub acceptedAs : Network → Outcome
+acceptedAs n = record { number = 0; row = 0; network = n }
+
+-- "The reader closes the study at the end."; "25 closing without a source (from the reader: last row)": after i rows
+unfoldable pub closeAfter : ℕ → Network → Outcome
+closeAfter i n = cond (eqb (closeNumber n) 0) (acceptedAs (afterClose n)) (refusedAt (closeNumber n) i)
+
+-- "It stops at the first refusal": the rows that follow i others
+unfoldable pub readFrom : ℕ → Network → List (List ℕ) → Outcome
+readFrom i n [] = closeAfter i n
+readFrom i n (r ∷ rs) =
+    cond (eqb (rowNumber n (rowOf (eqb i 0) r)) 0)
+    (readFrom (i + 1) (afterRow n (rowOf (eqb i 0) r)) rs)
+    (refusedAt (rowNumber n (rowOf (eqb i 0) r)) (i + 1))
+
+-- "up to 65,536 bytes"; "for empty or overlong text, row 1"
+unfoldable pub readOf : List ℕ → Outcome
+readOf text = cond (within (length text) 1 65536) (readFrom 0 emptyNetwork (rows text)) (refusedAt 16 1)

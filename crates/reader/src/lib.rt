@@ -1,0 +1,114 @@
+// From the text of a file to a study: rows, fields, numbers, records.
+ghost use mathlib.Core.Path.{_≡_};
+ghost use Rattle.network.specs.Network.{network};
+ghost use Rattle.reader.specs.File.{rowNumber, afterRow, refusedAt, readOf};
+
+mod fields;
+mod rows;
+
+use network::Answer;
+use network::Bus;
+use network::Source;
+use network::Study;
+use network::add_bus;
+use network::add_source;
+use network::close;
+use network::start;
+use rows::row_end;
+use rows::row_of;
+
+// The most bytes that a text may have.
+const BYTES: usize = 65_536;
+
+// What the bytes of a field say.
+pub enum Number {
+    Value(u32),
+    Broken,
+}
+
+// The numbers of a row, in order: those that are counted, where the row is in order.
+pub struct Numbers {
+    pub ok: bool,
+    pub count: usize,
+    pub values: [u32; 10],
+}
+
+// What a row says: the tolerance of a start, a record, or nothing that the file's form allows.
+pub enum Row {
+    Start(u32),
+    WithBus(Bus),
+    WithSource(Source),
+    Malformed,
+}
+
+// What reading a text gives: the number of the ground on which it was refused and the row, both 0 where it was accepted, and the
+// study.
+pub struct Reading {
+    pub number: u32,
+    pub row: u32,
+    pub study: Study,
+}
+
+// The call that a row stands for. Refused: 16 where the row says nothing, else as the call is.
+fn take_row(s: Study, row: Row) -> Answer
+    ensures number { λ r. ⌜ r .number ≡ rowNumber (network s) row ⌝ }
+    ensures network { λ r. ⌜ network (r .study) ≡ afterRow (network s) row ⌝ }
+{
+    match row {
+        Row::Start(t) => start(t),
+        Row::WithBus(b) => add_bus(s, b),
+        Row::WithSource(p) => add_source(s, p),
+        Row::Malformed => Answer {
+            number: 16,
+            study: s,
+        },
+    }
+}
+
+// A refused text leaves an empty open study of tolerance 6.
+fn refused(number: u32, row: u32) -> Reading
+    ensures number { λ r. ⌜ r .number ≡ number ⌝ }
+    ensures row { λ r. ⌜ r .row ≡ row ⌝ }
+    ensures network { λ r. ⌜ network (r .study) ≡ refusedAt number row .network ⌝ }
+{
+    let empty = start(6);
+    let study = empty.study;
+    Reading { number, row, study }
+}
+
+// The study that a text gives, closed. It stops at the first row that is refused.
+pub fn read(text: &[u8]) -> Reading
+    ensures number { λ r. ⌜ r .number ≡ readOf (now (text .entry)) .number ⌝ }
+    ensures row { λ r. ⌜ r .row ≡ readOf (now (text .entry)) .row ⌝ }
+    ensures network { λ r. ⌜ network (r .study) ≡ readOf (now (text .entry)) .network ⌝ }
+{
+    let n = text.len();
+    if (n == 0) | (BYTES < n) {
+        return refused(16, 1);
+    }
+    let empty = start(6);
+    let mut study = empty.study;
+    let mut row: u32 = 0;
+    let mut at: usize = 0;
+    while at < n {
+        let end = row_end(text, at);
+        let said = row_of(row == 0, &text[at..end]);
+        let answer = take_row(study, said);
+        row += 1;
+        if answer.number != 0 {
+            return refused(answer.number, row);
+        }
+        study = answer.study;
+        at = end + 2;
+    }
+    let last = close(study);
+    if last.number != 0 {
+        return refused(last.number, row);
+    }
+    let closed = last.study;
+    Reading {
+        number: 0,
+        row: 0,
+        study: closed,
+    }
+}

@@ -1,0 +1,112 @@
+ghost use mathlib.Core.Path.{_≡_};
+ghost use Prim.Native.Nat.{_+_, _≤_, _<_};
+ghost use lib.ListN.{length, take, drop};
+ghost use Rattle.reader.specs.File.{busOf, sourceOf, recordOf, rowOf};
+ghost use Rattle.reader.specs.Stretches.{atCrlf, before};
+
+use crate::Numbers;
+use crate::Row;
+use crate::fields::numbers_of;
+use network::Bus;
+use network::Source;
+
+// Whether CRLF stands at a place.
+fn ends_row(text: &[u8], i: usize) -> bool
+    requires { ⌜ i < length (now text) ⌝ }
+    ensures { λ r. ⌜ r ≡ atCrlf (drop i (now (text .entry))) ⌝ }
+{
+    if text[i] != b'\r' {
+        return false;
+    }
+    if text.len() <= i + 1 {
+        return false;
+    }
+    text[i + 1] == b'\n'
+}
+
+// Where the row that begins at a place ends: at its CRLF, or with the text.
+pub fn row_end(text: &[u8], at: usize) -> usize
+    requires { ⌜ at ≤ length (now text) ⌝ }
+    ensures { λ r. ⌜ (r ≡ at + before atCrlf (drop at (now (text .entry)))) × (r ≤ length (now (text .entry))) ⌝ }
+{
+    let mut i = at;
+    while i < text.len() {
+        if ends_row(text, i) {
+            return i;
+        }
+        i += 1;
+    }
+    i
+}
+
+fn bus_of(v: [u32; 10]) -> Bus
+    ensures { λ r. ⌜ r ≡ busOf v ⌝ }
+{
+    Bus {
+        parent: v[0],
+        volts: v[1],
+        kind: v[2],
+        f1: v[3],
+        f2: v[4],
+        f3: v[5],
+        f4: v[6],
+        f5: v[7],
+        rating: v[8],
+        peak_rating: v[9],
+    }
+}
+
+fn source_of(v: [u32; 10]) -> Source
+    ensures { λ r. ⌜ r ≡ sourceOf v ⌝ }
+{
+    Source {
+        kind: v[0],
+        bus: v[1],
+        f1: v[2],
+        f2: v[3],
+        f3: v[4],
+        f4: v[5],
+        f5: v[6],
+    }
+}
+
+// The record that a letter and the numbers after it give: S and one number in row 1; in any other B and ten, or P and seven.
+fn record_of(first: bool, letter: u8, n: Numbers) -> Row
+    requires { ⌜ n .count ≤ 10 ⌝ }
+    ensures { λ r. ⌜ r ≡ recordOf first letter (take (n .count) (n .values)) ⌝ }
+{
+    let v = n.values;
+    if first {
+        if (letter == b'S') & (n.count == 1) {
+            return Row::Start(v[0]);
+        }
+        return Row::Malformed;
+    }
+    if (letter == b'B') & (n.count == 10) {
+        let b = bus_of(v);
+        return Row::WithBus(b);
+    }
+    if (letter == b'P') & (n.count == 7) {
+        let p = source_of(v);
+        return Row::WithSource(p);
+    }
+    Row::Malformed
+}
+
+// What a row says: a letter, a comma and numbers.
+pub fn row_of(first: bool, row: &[u8]) -> Row
+    ensures { λ r. ⌜ r ≡ rowOf first (now (row .entry)) ⌝ }
+{
+    if row.len() < 2 {
+        return Row::Malformed;
+    }
+    if row[1] != b',' {
+        return Row::Malformed;
+    }
+    let rest = &row[2..];
+    let n = numbers_of(rest);
+    if n.ok {
+        return record_of(first, row[0], n);
+    }
+    Row::Malformed
+}
