@@ -21,3 +21,4 @@ pub mod Same
 pub mod VerdictLaw
 pub mod Worked
 pub mod Tables
+pub mod Promise

@@ -2,7 +2,6 @@
 use Prim.Native.Nat.{ℕ, _+_, _-_, _^_, _≤_, _<_}
 use mathlib.Core.Path.{_≡_, refl, sym, _∙_, ap}
 use mathlib.Core.Bool.{Bool, true, false, cond}
-use mathlib.Core.List.{List}
 use native.Mathlib.Omega.{arith}
 use native.Mathlib.Nat.{le-trans, le-of-lt}
 use lib.Dec.{ltb, eqb, lit≤}
@@ -15,15 +14,11 @@ use Rattle.network.specs.declared.Amperes.{Amperes}
 use Rattle.network.specs.declared.Verdict.{Verdict}
 use Rattle.network.specs.declared.Verdict.the-variants.{Within, Over, Close}
 use Rattle.network.specs.Network.{Network, busAt}
-use Rattle.network.specs.Calls.{Call, run}
 use Rattle.network.specs.Tests.{by-test}
-use Rattle.network.specs.Rebuilt.{Rebuilt, run-rebuilt}
-use Rattle.network.specs.Facts.{bus-rating, bus-peak-rating, closed-source}
 use Rattle.network.specs.Demand.{Figures, Whole}
-use Rattle.network.specs.Rounded.{figuresAt, amperesAt}
+use Rattle.network.specs.Rounded.{amperesAt}
 use Rattle.network.specs.Verdict.{verdictOf, verdictOn}
 use Rattle.network.specs.Query.{queryNumber, queryGrounds, verdictGiven}
-use Rattle.network.specs.Claim.{figures-whole}
 
 -- P against its rating, then the rest
 over-or : (p q : ℕ) (v w : Verdict) → p ≤ 2 ^ 53 → q ≤ 2 ^ 53 → v ≡ w
@@ -67,15 +62,6 @@ pub query-accepted : (n : Network) (b : ℕ) → n .closed ≡ true → b < leng
 unfolding queryNumber
 query-accepted n b c l = ap (λ (t : Bool). cond t (cond (ltb b (length (n .buses))) 0 15) 22) c ∙ ap (λ (t : Bool). cond t 0 15) (lt-ltb b (length (n .buses)) l)
 
-verdict-given : (n : Network) (b : ℕ) → queryNumber n b ≡ 0 → verdictGiven n b ≡ verdictOf (amperesAt n b) (ofNat (busAt (n .buses) b .rating)) (ofNat (busAt (n .buses) b .«peak_rating»))
+pub verdict-given : (n : Network) (b : ℕ) → queryNumber n b ≡ 0 → verdictGiven n b ≡ verdictOf (amperesAt n b) (ofNat (busAt (n .buses) b .rating)) (ofNat (busAt (n .buses) b .«peak_rating»))
 unfolding verdictGiven
 verdict-given n b e = rw (eq-eqb (queryNumber n b) 0 e)
-
--- DEMAND 2's last part, for every list of calls: the verdict given for any bus follows document 01's comparison of its amperes
-pub verdict-claim : (cs : List Call) → run cs .closed ≡ true → (b : ℕ) → b < length (run cs .buses)
-    → verdictGiven (run cs) b ≡ verdictOn (figuresAt (run cs) b .lower + figuresAt (run cs) b .«converters_lower») (figuresAt (run cs) b .upper + figuresAt (run cs) b .«converters_upper»)
-    (figuresAt (run cs) b .peak + figuresAt (run cs) b .«converters_peak») (busAt (run cs .buses) b .rating) (busAt (run cs .buses) b .«peak_rating»)
-verdict-claim cs c b l =
-    let r = run-rebuilt cs in
-    verdict-given (run cs) b (query-accepted (run cs) b c l)
-    ∙ verdict-whole (amperesAt (run cs) b) (figuresAt (run cs) b) (figures-whole r (closed-source r c) b l) _ _ (omega (arith, bus-rating r b l .1)) (omega (arith, bus-peak-rating r b l .1))
