@@ -1,11 +1,13 @@
 """Document 01 once more, as plainly as it is written: fractions and recursion.
 
-It is far too slow for large networks.  The self-test compares it with
-exact.py on small ones, so that a slip in the sweeps or in the gathered
-whole-number formulas shows.
+The fractions are far too slow for large networks.  The self-test compares
+them with exact.py on small ones, and the same recursion in floating point on
+large ones, so that a slip in the sweeps or in the gathered whole-number
+formulas shows.
 """
 
 from fractions import Fraction as F
+from functools import lru_cache
 
 from exact import CONVERTER, FEEDER, GENERATOR, TRANSFORMER
 
@@ -25,10 +27,12 @@ def c(volts, tolerance):
     return F(105, 100) if volts <= 1000 and tolerance == 6 else F(110, 100)
 
 
+@lru_cache(None)
 def sine(p):
     return F(least(lambda s: s * s >= 10**8 - 10**4 * p * p), 10000)
 
 
+@lru_cache(None)
 def ux(uk, ur):
     return greatest(lambda n: n * n <= uk * uk - ur * ur)
 
@@ -66,6 +70,10 @@ class Complex:
     def inverse(self):
         square = self.re**2 + self.im**2
         return Complex(self.re / square, -self.im / square)
+
+
+def nearly(z):
+    return complex(float(z.re), float(z.im))
 
 
 class PlainNetwork:
@@ -131,6 +139,20 @@ class PlainNetwork:
         if not parts:
             return None
         return sum(parts[1:], parts[0])
+
+    def seen_nearly(self, b, without=None):
+        """The same in floating point, 0 where no machine is."""
+        found = 0j
+        for source in self.sources:
+            if source.bus == b and source.kind != CONVERTER:
+                found += 1 / nearly(self.machine(source))
+        for n in self.neighbours(b):
+            y = 0j if n == without else self.seen_nearly(n, b)
+            if y:
+                squared = float(self.ratio(n, b)) ** 2
+                z = nearly(self.branch(max(n, b)))
+                found += 1 / ((z if b > n else z * squared) + squared / y)
+        return found
 
     def converters(self, b, without=None):
         found = F(0)

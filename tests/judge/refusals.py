@@ -45,12 +45,12 @@ def miss(name, rows, number, row, tolerance=6, last_end=True):
 def ends(row, field, low, high, ground, others=None):
     """Both ends accepted, one step outside and the greatest number refused."""
     found = []
-    for value in (low - 1, low, high, high + 1, GREATEST):
-        if 0 <= value <= GREATEST:
-            number = 0 if low <= value <= high else ground
-            changes = {(row, field): value, **(others or {})}
-            name = f"ground {ground}: row {row} field {field + 1} is {value}"
-            found.append(miss(name, changed(BASE, changes), number, row))
+    for value in sorted({max(low - 1, 0), low, high, high + 1, GREATEST}):
+        number = 0 if low <= value <= high else ground
+        changes = {(row, field): value, **(others or {})}
+        meant = f"ground {ground}" if number else "accepted"
+        name = f"{meant}: row {row} field {field + 1} is {value}"
+        found.append(miss(name, changed(BASE, changes), number, row))
     return found
 
 

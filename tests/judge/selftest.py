@@ -18,7 +18,7 @@ from exact import f_millionths, peak_thousandths, series, sine, transformer_ux
 from faults import FAULTS
 from fixed import fixed_networks, table_steps
 from judge import Amperes, Bench, peak_reasons, verdict
-from networks import any_network, crowd, full_tree, random_tree
+from networks import FAMILIES, any_network, crowd, full_tree, random_tree
 from plain import PlainNetwork
 from reference import TABLE, InProcess, StandIn
 from refusals import chain_rows, lone_bus, near_misses
@@ -139,6 +139,21 @@ def against_plain(tests, count=60):
                 for square in (peak - beside, peak, peak + beside)
             ]
             tests.same(f"{name}: peak squared at {b}", signs, [-1, 0, 1])
+
+
+def against_floats(tests):
+    """Large networks against the plain recursion in floating point, some buses of each."""
+    for n, family in enumerate(family for family in FAMILIES for _ in range(3)):
+        study = study_of(family(Random(n)))
+        plain = PlainNetwork(study.tolerance, study.buses, study.sources)
+        judges = BENCH.judges(study.network())
+        for b in {0, len(judges) // 2, len(judges) - 1}:
+            values = judges[b].machines.values
+            square = Fraction(values.square_top, values.square_bottom)
+            volts = study.buses[b].volts
+            near = (float(plain.c(volts)) * volts * abs(plain.seen_nearly(b))) ** 2 / 3
+            name = f"{family.__name__} {n}: I squared at {b} in floating point"
+            tests.true(name, abs(float(square) / near - 1) < 1e-9)
 
 
 def meant_numbers(tests):
@@ -265,6 +280,7 @@ def main():
     worked_networks(tests)
     worked_grounds(tests)
     against_plain(tests)
+    against_floats(tests)
     meant_numbers(tests)
     refused_calls(tests)
     judge_borders(tests)
