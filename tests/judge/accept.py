@@ -1,0 +1,211 @@
+"""Which calls and which files are accepted, with number and row.
+
+Written from document 01 alone ("The study", "The file" and the two lists of
+grounds).  A Study is never changed: each call gives its number and the study
+after it, so that a refused call gives back the study it was made on.
+"""
+
+from exact import (
+    CONVERTER,
+    FEEDER,
+    GENERATOR,
+    LINE,
+    MOTOR,
+    TRANSFORMER,
+    BusRecord,
+    Network,
+    SourceRecord,
+)
+
+BUSES, SOURCES = 64, 256
+BRANCHES, TRANSFORMERS = 18, 4
+TEXT_BYTES = 65536
+FORM = 16
+
+
+def within(value, low, high):
+    return low <= value <= high
+
+
+def near_nominal(rated, volts):
+    """From 9/10 to 11/10 of the nominal volts, ends included."""
+    return 9 * volts <= 10 * rated <= 11 * volts
+
+
+class Study:
+    def __init__(self, tolerance=6, buses=(), sources=(), closed=False):
+        self.tolerance = tolerance
+        self.buses = buses
+        self.sources = sources
+        self.closed = closed
+
+    def network(self):
+        return Network(self.tolerance, self.buses, self.sources)
+
+    # Calls
+
+    def start(self, tolerance):
+        if tolerance not in (6, 10):
+            return 1, type(self)()
+        return 0, type(self)(tolerance)
+
+    def add_bus(self, fields):
+        record = BusRecord(*fields)
+        number = first_true(self.state_grounds(23, len(self.buses) >= BUSES))
+        number = number or first_true(self.bus_grounds(record))
+        if number:
+            return number, self
+        return 0, type(self)(self.tolerance, self.buses + (record,), self.sources)
+
+    def add_source(self, fields):
+        record = SourceRecord(*fields)
+        number = first_true(self.state_grounds(24, len(self.sources) >= SOURCES))
+        number = number or first_true(self.source_grounds(record))
+        if number:
+            return number, self
+        return 0, type(self)(self.tolerance, self.buses, self.sources + (record,))
+
+    def close(self):
+        number = first_true(self.state_grounds(25, not self.sources))
+        if number:
+            return number, self
+        return 0, type(self)(self.tolerance, self.buses, self.sources, True)
+
+    def query(self, bus):
+        """The number alone; the amperes of an accepted query are judged elsewhere."""
+        if not self.closed:
+            return 22
+        return 15 if bus >= len(self.buses) else 0
+
+    def read(self, text):
+        """Number, row and study of a file; the study before it plays no part."""
+        number, row, study = self.read_rows(text)
+        if number:
+            return number, row, type(self)()
+        return 0, 0, study
+
+    # Grounds in their order
+
+    def state_grounds(self, number, full):
+        yield 21, self.closed
+        yield number, full
+
+    def bus_grounds(self, bus):
+        """Pairs of a ground and whether it stands, each tried only after the ones before."""
+        first = not self.buses
+        yield 2, not within(bus.volts, 100, 420000)
+        yield 3, bus.parent != 0 if first else bus.parent >= len(self.buses)
+        yield 4, bus.kind != 0 if first else bus.kind not in (LINE, TRANSFORMER)
+        yield 5, not self.branch_fields_fit(bus)
+        if bus.kind == LINE:
+            yield 6, bus.volts != self.buses[bus.parent].volts
+        if bus.kind == TRANSFORMER:
+            yield 7, not self.transformer_volts_fit(bus)
+        if not first:
+            branches, transformers = self.depth(bus)
+            yield 8, branches > BRANCHES or transformers > TRANSFORMERS
+        yield 9, not (within(bus.rating, 1, 10**6) and within(bus.peak_rating, 1, 3 * 10**6))
+
+    def branch_fields_fit(self, bus):
+        if bus.kind == LINE:
+            r, x, metres, circuits, unused = bus.branch
+            return (
+                within(r, 0, 100000)
+                and within(x, 0, 100000)
+                and (r, x) != (0, 0)
+                and within(metres, 1, 200000)
+                and within(circuits, 1, 8)
+                and unused == 0
+            )
+        if bus.kind == TRANSFORMER:
+            _, _, kva, uk, ur = bus.branch
+            return within(kva, 10, 10**6) and within(uk, 100, 30000) and within(ur, 0, uk - 1)
+        return not any(bus.branch)
+
+    def transformer_volts_fit(self, bus):
+        parent_volts = self.buses[bus.parent].volts
+        return near_nominal(bus.first, parent_volts) and near_nominal(bus.second, bus.volts)
+
+    def depth(self, bus):
+        """Branches and transformers from bus 0 to the far end of this branch."""
+        branches = transformers = 0
+        while bus.kind:
+            branches += 1
+            transformers += bus.kind == TRANSFORMER
+            bus = self.buses[bus.parent]
+        return branches, transformers
+
+    def source_grounds(self, source):
+        yield 10, source.kind not in (FEEDER, GENERATOR, MOTOR, CONVERTER)
+        yield 11, source.bus >= len(self.buses)
+        yield 12, not self.source_fields_fit(source)
+        if source.kind in (GENERATOR, MOTOR):
+            yield 13, not near_nominal(source.first, self.buses[source.bus].volts)
+        if self.sources:
+            yield 14, source.kind == FEEDER
+        else:
+            yield 14, source.kind != FEEDER or source.bus != 0
+
+    def source_fields_fit(self, source):
+        one, two, three, four, five = source.fields
+        if source.kind == FEEDER:
+            fits = within(one, 1000, 10**8) and within(two, 0, 200)
+            return fits and not (three or four or five)
+        if source.kind == GENERATOR:
+            fits = within(two, 10, 10**6) and within(three, 1000, 100000)
+            return fits and within(four, 0, 200) and within(five, 70, 100)
+        if source.kind == MOTOR:
+            fits = within(two, 1, 100000) and within(three, 10, 100)
+            return fits and within(four, 0, 200) and five == 0
+        fits = within(one, 1, 100000) and within(two, 100, 300)
+        return fits and not (three or four or five)
+
+    # The file
+
+    def read_rows(self, text):
+        if not within(len(text), 1, TEXT_BYTES):
+            return FORM, 1, None
+        rows = self.rows(text)
+        study = None
+        for place, row in enumerate(rows, 1):
+            letter, numbers = self.parse(row)
+            if letter is None or (letter == b"S") != (place == 1):
+                return FORM, place, None
+            if letter == b"S":
+                number, study = type(self)().start(*numbers)
+            elif letter == b"B":
+                number, study = study.add_bus(numbers)
+            else:
+                number, study = study.add_source(numbers)
+            if number:
+                return number, place, None
+        number, study = study.close()
+        return number, len(rows), study
+
+    def rows(self, text):
+        """Stretches between CRLF ends; the last end may be left out."""
+        rows = text.split(b"\r\n")
+        return rows[:-1] if rows[-1] == b"" else rows
+
+    def parse(self, row):
+        """Letter and numbers of a row, or None twice when its form is broken."""
+        letter, *fields = row.split(b",")
+        numbers = [self.number(field) for field in fields]
+        if None in numbers or {b"S": 1, b"B": 10, b"P": 7}.get(letter) != len(numbers):
+            return None, None
+        return letter, numbers
+
+    def number(self, field):
+        if not 1 <= len(field) <= 10 or not all(48 <= byte <= 57 for byte in field):
+            return None
+        if field[:1] == b"0" and len(field) > 1:
+            return None
+        value = int(field)
+        return value if value < 2**32 else None
+
+
+def first_true(grounds):
+    for number, stands in grounds:
+        if stands:
+            return number
+    return 0

@@ -1,0 +1,206 @@
+"""Lists of single calls, fixed and drawn, with refused ones among them.
+
+A call is a tuple: ("start", tolerance), ("bus", ten numbers), ("source", seven
+numbers), ("close",), ("query", bus), ("read", bytes) or ("other", line), the
+last for a line that is no call at all.
+"""
+
+from networks import amount, any_network, random_tree
+from refusals import BASE, GREATEST, chain_rows, fault_subsets, lone_bus
+from texts import SMALL, TEXT, spoil
+
+NO_CALLS = [
+    "hello",
+    "start",
+    "start,",
+    "start,6,0",
+    "start,-6",
+    "start,4294967296",
+    "bus,0,100,0,0,0,0,0,0,1",
+    "bus,0,100,0,0,0,0,0,0,1,1,1",
+    "bus,0,100,0,0,0,0,0,0,1,x",
+    "source,1,0,1000,0,0,0",
+    "source,1,0,1000,0,0,0,0,0",
+    "close,1",
+    "query",
+    "query,",
+    "query,x",
+    "query,0,0",
+    "query,4294967296",
+    "read",
+    "read,0",
+    "read,0g",
+    "Start,6",
+    "S,6",
+]
+
+
+def as_calls(rows):
+    return [("bus" if letter == "B" else "source", numbers) for letter, numbers in rows]
+
+
+def queries(count):
+    """All buses, and the first absent one."""
+    return [("query", bus) for bus in range(count + 1)]
+
+
+def line_of(call):
+    """The console's line for a call."""
+    name, *rest = call
+    if name == "other":
+        return rest[0]
+    if name == "read":
+        return "read," + rest[0].hex()
+    if name in ("bus", "source"):
+        rest = rest[0]
+    return ",".join([name, *map(str, rest)])
+
+
+# c cancels for a feeder alone; beside a motor the machines' part tells the tolerances apart
+LOW_VOLTAGE = lone_bus(400) + [("P", (3, 0, 400, 100000, 50, 42, 0))]
+BUILD_LOW = as_calls(LOW_VOLTAGE) + [("close",), *queries(1)]
+
+
+def states():
+    """Each call on an empty, an open and a closed study."""
+    base = as_calls(BASE)
+    tries = [
+        ("query", 0),
+        ("query", 3),
+        ("query", GREATEST),
+        ("bus", (9, 9, 9, 9, 9, 9, 9, 9, 0, 0)),
+        ("source", (9, 9, 9, 9, 9, 9, 9)),
+    ]
+    found = [("start", 6), *tries, ("source", BASE[1][1]), ("close",)]
+    for call in base:
+        found += [call, *tries]
+        if call[0] == "bus" and call is base[0]:
+            found.append(("close",))
+    found += [("close",), *queries(3), *tries, *base, ("close",), *queries(3)]
+    found += [("start", 10), *tries, ("close",), *base, ("close",), *queries(3)]
+    return found
+
+
+def refused_starts():
+    """A refused start or file leaves tolerance 6 and no records, an open study."""
+    found = [("start", 10), *BUILD_LOW]
+    for call in (("start", 7), ("start", 0), ("start", GREATEST), ("read", b"S,7"), ("read", b"")):
+        found += [("start", 10), *BUILD_LOW, call, ("query", 0), ("close",), *BUILD_LOW]
+        found += [("start", 10), *as_calls(LOW_VOLTAGE), call, ("close",), *BUILD_LOW]
+    return found
+
+
+def files_between():
+    """Files read into empty, open and closed studies."""
+    found = [("start", 10), ("read", TEXT), *queries(3), ("close",), *as_calls(BASE), *queries(3)]
+    found += [("start", 10), ("bus", BASE[0][1]), ("read", SMALL), *queries(1)]
+    found += [("read", SMALL + b"x"), ("query", 0), ("close",), *BUILD_LOW]
+    found += [("read", TEXT.replace(b"S,6", b"S,10")), *queries(3), ("read", TEXT), *queries(3)]
+    return found
+
+
+def full_tables():
+    """The 65th bus and the 257th source, right and faulty, open and closed."""
+    bus = ("bus", (0, 20000, 1, 100, 300, 1000, 2, 0, 15000, 60000))
+    converter = ("source", (4, 0, 1000, 150, 0, 0, 0))
+    feeder = ("source", BASE[1][1])
+    wrong_bus = ("bus", (99, 1, 7, 1, 1, 1, 1, 1, 0, 0))
+    wrong_source = ("source", (9, 99, 1, 1, 1, 1, 1))
+    found = [("start", 6), ("bus", BASE[0][1])] + [bus] * 63
+    found += [bus, wrong_bus, wrong_source, converter, feeder] + [converter] * 255
+    found += [bus, wrong_bus, converter, wrong_source, feeder, ("query", 64), ("query", 0)]
+    found += [("close",), bus, wrong_bus, converter, wrong_source, ("close",)]
+    return found + [("query", 0), ("query", 63), ("query", 64)]
+
+
+def companies():
+    """Every company of faults as calls on one study, which must stay as it was."""
+    found = []
+    head = None
+    for _, rows, (letter, numbers), _ in fault_subsets():
+        if rows is not head and rows != head:
+            if head is not None and any(row[0] == "P" for row in head):
+                found += [("close",), *queries(len(head) - 1)]
+            found += [("start", 6), *as_calls(rows)]
+            head = rows
+        found.append(("bus" if letter == "B" else "source", numbers))
+    return found
+
+
+def depths():
+    found = []
+    for transformers, lines in ((0, 19), (5, 0), (4, 15)):
+        found += [("start", 10), *as_calls(chain_rows(transformers, lines))]
+        found += [("close",), *queries(19)]
+    return found
+
+
+def other_lines():
+    """Lines that are no call change nothing."""
+    found = [("start", 10)]
+    for call in BUILD_LOW:
+        found += [call] + [("other", line) for line in NO_CALLS]
+    return found
+
+
+def at_once():
+    """Calls before any start: an empty open study of tolerance 6."""
+    return [("query", 0), ("close",), *BUILD_LOW]
+
+
+FIXED = [states, refused_starts, files_between, full_tables, companies, depths, other_lines]
+
+
+# Drawn lists
+
+
+def wrong_record(rng, numbers):
+    """One field changed: refused as a rule, now and then not."""
+    numbers = list(numbers)
+    for _ in range(rng.choice([1, 1, 2])):
+        at = rng.randrange(len(numbers))
+        value = numbers[at]
+        others = [0, 1, value + 1, max(value - 1, 0), 2 * value, 99, 10**6 + 1, GREATEST]
+        numbers[at] = min(rng.choice(others), GREATEST)
+    return tuple(numbers)
+
+
+def side_call(rng, rows):
+    """A call that does not belong to the plan."""
+    way = rng.randrange(14)
+    if way < 4:
+        return ("query", amount(rng, 0, 70))
+    if way < 5:
+        return ("close",)
+    if way < 6:
+        return ("other", rng.choice(NO_CALLS))
+    if way < 7 and rng.random() < 0.1:
+        return ("start", rng.choice([6, 10, 7, GREATEST]))
+    if way < 8 and rng.random() < 0.1:
+        return ("read", spoil(rng, TEXT) if rng.random() < 0.7 else SMALL)
+    letter, numbers = rng.choice(rows)
+    return ("bus" if letter == "B" else "source", wrong_record(rng, numbers))
+
+
+def drawn_calls(rng):
+    """One to three plans, each a network added call by call with others between."""
+    found = []
+    for _ in range(rng.randint(1, 3)):
+        if rng.random() < 0.2:
+            found.append(("read", any_network(rng)[1].file()))
+        else:
+            draft = random_tree(rng, rng.randint(1, 30), rng.randint(1, 40))
+            found += [("start", draft.tolerance)]
+            for call in as_calls(draft.rows):
+                while rng.random() < 0.4:
+                    found.append(side_call(rng, draft.rows))
+                found.append(call)
+        for _ in range(rng.randrange(4)):
+            found.append(side_call(rng, BASE))
+        found += [("close",), *queries(rng.randint(0, 64))]
+        for _ in range(rng.randrange(6)):
+            found.append(side_call(rng, BASE))
+        found.append(("query", amount(rng, 0, 64)))
+        if rng.random() < 0.3:
+            found.append(("start", rng.choice([6, 10, 8])))
+    return found

@@ -1,0 +1,248 @@
+"""Cases and units of work: what is asked of a program, and how its answers are gone through.
+
+A case is one test.  A unit is a list of cases that share a console process and
+a Checker, so that networks alike in all but their converters meet in one unit.
+"""
+
+from random import Random
+from typing import NamedTuple, Optional
+
+from accept import Study
+from calls import FIXED, at_once, drawn_calls, line_of, queries, states
+from check import Checker
+from fixed import fixed_networks
+from judge import Amperes
+from networks import any_network, border_ratings, with_more_converters, with_ratings
+from networks import without_converters, write_file
+from refusals import near_misses
+from texts import greatest_numbers, meant_texts, spoil, truncations
+
+
+class Case(NamedTuple):
+    """`text` is the file of a case about one file; `ending` stands before each LF."""
+
+    name: str
+    calls: list
+    text: Optional[bytes] = None
+    ending: str = ""
+
+    def lines(self):
+        return [line_of(call) + self.ending for call in self.calls]
+
+
+class Failure(NamedTuple):
+    name: str
+    reason: str
+    shown: str
+
+
+class NetworkPlan(NamedTuple):
+    """A network to be judged, with its variants.
+
+    `rounds` says how many files with ratings at the verdict's borders are
+    made of the amperes given for it.
+    """
+
+    name: str
+    tolerance: int
+    rows: list
+    text: bytes
+    seed: int
+    rounds: int = 1
+    by_program: bool = False
+
+
+class Unit(NamedTuple):
+    cases: list
+    networks: list = []
+    program_texts: list = []
+    alone: bool = False
+
+
+def file_case(name, text):
+    number, _, study = Study().read(text)
+    after = [("query", 0), ("close",)] if number else queries(len(study.buses))
+    return Case(name, [("read", text), *after], text)
+
+
+def network_plan(name, draft, seed, rounds=1, by_program=False):
+    return NetworkPlan(name, draft.tolerance, draft.rows, draft.file(), seed, rounds, by_program)
+
+
+def network_cases(plan):
+    """The network, without its converters and with further ones."""
+    bare = write_file(plan.tolerance, without_converters(plan.rows))
+    more = write_file(plan.tolerance, with_more_converters(Random(plan.seed), plan.rows))
+    return [
+        file_case(plan.name, plan.text),
+        file_case(plan.name + ", without converters", bare),
+        file_case(plan.name + ", with more converters", more),
+    ]
+
+
+def border_cases(plan, amperes):
+    """Files with ratings at the verdict's borders, going round over the buses."""
+    choices = [border_ratings(six) for six in amperes]
+    found = []
+    for turn in range(plan.rounds):
+        picked = [
+            pairs[(bus + turn + plan.seed) % len(pairs)][1:] for bus, pairs in enumerate(choices)
+        ]
+        text = write_file(plan.tolerance, with_ratings(plan.rows, picked))
+        found.append(file_case(f"{plan.name}, ratings at borders {turn + 1}", text))
+    return found
+
+
+# Units of the fixed set and of a seed
+
+
+def chunks(items, size):
+    return [items[i : i + size] for i in range(0, len(items), size)]
+
+
+def fixed_units():
+    texts = [(m.name, m.text) for m in near_misses() + meant_texts()]
+    texts += truncations() + greatest_numbers()
+    lists = [Case(f"calls: {make.__name__}", make()) for make in FIXED]
+    lists.append(Case("calls: states, lines ended by CRLF", states(), None, "\r"))
+    units = [Unit(lists)]
+    units.append(Unit([Case("calls: at_once", at_once())], alone=True))
+    for i, part in enumerate(chunks(texts, 100)):
+        units.append(Unit([file_case(*text) for text in part], [], part[i % 8 :: 8]))
+    plans = []
+    for i, (name, draft) in enumerate(fixed_networks()):
+        small = len(draft.buses) <= 3 and not name.startswith("feeder")
+        plans.append(network_plan(name, draft, i, 21 if small else 1, i % 4 == 0 or small))
+    return units + [Unit([], part) for part in chunks(plans, 8)]
+
+
+def drawn_units(seed, networks, texts, lists):
+    """Arguments of drawn_unit for so many networks, broken texts and lists of calls."""
+    found = []
+    kinds = ("networks", networks, 8), ("bytes", texts, 100), ("calls", lists, 20)
+    for kind, count, size in kinds:
+        found += [(kind, seed, part) for part in chunks(range(count), size)]
+    return found
+
+
+def drawn_unit(kind, seed, places):
+    """Made only when it is run; the n-th of a kind and seed is always the same."""
+    draws = [(f"{kind} {n} of seed {seed}", n, Random(f"{seed} {kind} {n}")) for n in places]
+    if kind == "networks":
+        return Unit([], [drawn_plan(*draw) for draw in draws])
+    if kind == "calls":
+        return Unit([Case(name, drawn_calls(rng)) for name, _, rng in draws])
+    texts = [(name, spoil(rng, any_network(rng)[1].file())) for name, _, rng in draws]
+    return Unit([file_case(*text) for text in texts], [], texts[::20])
+
+
+def drawn_plan(name, n, rng):
+    family, draft = any_network(rng)
+    return network_plan(f"{name}, {family}", draft, rng.randrange(1000), 1, n % 10 == 0)
+
+
+# Running a unit
+
+
+class Outcome:
+    def __init__(self, checker):
+        self.checker = checker
+        self.passed = 0
+        self.failures = []
+
+    @property
+    def tally(self):
+        return self.checker.tally
+
+    def note(self, name, reason, shown):
+        if reason:
+            self.failures.append(Failure(name, reason, shown))
+        else:
+            self.passed += 1
+
+
+def run_unit(runner, unit, bench=None):
+    """Outcome of a unit, or of the arguments of a drawn one.
+
+    `runner` has console(lines), the list of answers, and program(text), the
+    bytes printed; either may be None when that program is not tested.
+    """
+    if not isinstance(unit, Unit):
+        unit = drawn_unit(*unit)
+    outcome = Outcome(Checker(bench))
+    if runner.console:
+        run_cases(runner, unit.cases, outcome, unit.alone)
+        cases = [network_cases(plan) for plan in unit.networks]
+        answers = run_cases(runner, [case for three in cases for case in three], outcome)
+        borders = []
+        for plan, (case, _, _) in zip(unit.networks, cases):
+            amperes = given_amperes(case, answers.get(case.name, []))
+            borders += border_cases(plan, amperes) if amperes else []
+        run_cases(runner, borders, outcome)
+    if runner.program:
+        texts = [(plan.name, plan.text) for plan in unit.networks if plan.by_program]
+        for name, text in unit.program_texts + texts:
+            reason = outcome.checker.program_reason(text, runner.program(text))
+            outcome.note(f"program: {name}", reason, show_text(text))
+    return outcome
+
+
+def run_cases(runner, cases, outcome, alone=False):
+    """Answers by the case's name, all cases in one console process unless `alone`.
+
+    A list of calls that does not begin with a start or a file would depend on
+    the case before it; those stand in a unit of their own.
+    """
+    lines = [line for case in cases for line in case.lines()]
+    answers = runner.console(lines) if cases and not alone else []
+    together = len(answers) == len(lines)
+    found, place = {}, 0
+    for case in cases:
+        if together:
+            own = answers[place : place + len(case.calls)]
+            place += len(case.calls)
+        else:
+            own = runner.console(case.lines())
+        found[case.name] = own
+        note_case(case, own, outcome)
+    return found
+
+
+def note_case(case, answers, outcome):
+    fault = outcome.checker.first_fault(case.calls, answers)
+    asked, given = len(case.calls), len(answers)
+    if fault is None and asked != given:
+        fault = min(asked, given), f"{given} answers to {asked} calls"
+    if fault is None:
+        outcome.note(case.name, "", "")
+        return
+    place, reason = fault
+    line = line_of(case.calls[min(place, asked - 1)])
+    reason = f"call {place + 1} ({line[:60]}{'...' if len(line) > 60 else ''}): {reason}"
+    outcome.note(case.name, reason, show_case(case, answers, place))
+
+
+def given_amperes(case, answers):
+    """The six amperes of each bus, or None when the file was not answered so far."""
+    found = []
+    for (name, *_), answer in zip(case.calls, answers):
+        fields = answer.split(",")
+        if name == "query" and len(fields) == 9 and fields[0] == "0":
+            if not all(field.isdecimal() for field in fields[1:7]):
+                return None
+            found.append(Amperes(*map(int, fields[1:7])))
+    return found if len(found) == len(case.calls) - 2 else None
+
+
+def show_text(text):
+    """The file row by row, each as Python writes the bytes, so that every byte can be told."""
+    return "\n".join(repr(row) for row in text.split(b"\r\n"))
+
+
+def show_case(case, answers, place):
+    if case.text is not None:
+        return show_text(case.text)
+    shown = []
+    for call, answer in list(zip(case.calls, answers))[: place + 1]:
+        shown.append(f"{line_of(call)[:2000]} -> {answer}")
+    return "\n".join(shown)

@@ -1,0 +1,151 @@
+"""Answers of a program against the acceptance rules and the judge."""
+
+import re
+from collections import Counter
+
+from accept import Study
+from exact import CONVERTER
+from judge import NO_AMPERES, Amperes, Bench, verdict_reasons
+
+NUMBER = re.compile(r"0|[1-9][0-9]{0,19}")
+LETTERS = ("W", "O", "C")
+
+
+class Tally:
+    """Figures over many cases."""
+
+    def __init__(self):
+        self.networks = 0
+        self.buses = 0
+        self.verdicts = Counter()
+        self.refused = Counter()
+        self.worst = {}
+
+    def note(self, figure, value):
+        self.worst[figure] = max(value, self.worst.get(figure, 0.0))
+
+    def note_amperes(self, judge, amperes):
+        self.buses += 1
+        for lower, upper in (amperes[0:2], amperes[2:4]):
+            self.note("width", 1000 * (upper - lower) / (2000 + upper))
+        exact = judge.machines.peak_estimate()
+        self.note("peak", (amperes.machines_peak - exact) / (4 + exact / 50))
+        exact = judge.converters.peak_ceiling()
+        self.note("peak", (amperes.converters_peak - exact) / (4 + exact / 50))
+
+    def add(self, other):
+        self.networks += other.networks
+        self.buses += other.buses
+        self.verdicts += other.verdicts
+        self.refused += other.refused
+        for figure, value in other.worst.items():
+            self.note(figure, value)
+
+
+def numbers_of(fields):
+    """Plain decimal integers, or None when one of the fields is something else."""
+    if not all(NUMBER.fullmatch(field) for field in fields):
+        return None
+    return [int(field) for field in fields]
+
+
+class Checker:
+    """Walks through calls and answers, the acceptance rules beside it."""
+
+    def __init__(self, bench=None):
+        self.bench = bench or Bench()
+        self.tally = Tally()
+        self.given = {}
+        self.judged = None, None
+
+    def judges(self, study):
+        if self.judged[0] is not study:
+            self.judged = study, self.bench.judges(study.network())
+            self.tally.networks += 1
+        return self.judged[1]
+
+    def first_fault(self, calls, answers):
+        """(place, reason) of the first wrong answer, or None."""
+        study = Study()
+        for place, (call, answer) in enumerate(zip(calls, answers)):
+            study, reason = self.step(study, call, answer)
+            if reason:
+                return place, reason
+        return None
+
+    def step(self, study, call, answer):
+        """The study after a call, and what is wrong with the answer."""
+        name, *rest = call
+        if name == "other":
+            return study, "" if answer.startswith("error,") else f"{answer!r} where error is due"
+        if name == "query":
+            return study, self.query_reason(study, rest[0], answer)
+        if name == "read":
+            number, row, study = study.read(rest[0])
+            due = f"{number},{row}"
+        else:
+            method = {"bus": study.add_bus, "source": study.add_source}.get(name)
+            method = method or getattr(study, name)
+            number, study = method(*rest)
+            due = str(number)
+        if number:
+            self.tally.refused[number] += 1
+        return study, "" if answer == due else f"{answer!r} where {due!r} is due"
+
+    def query_reason(self, study, bus, answer):
+        number = study.query(bus)
+        if number:
+            self.tally.refused[number] += 1
+            due = ",".join(map(str, (number, *NO_AMPERES, "C", 0)))
+            return "" if answer == due else f"{answer!r} where {due!r} is due"
+        fields = answer.split(",")
+        numbers = numbers_of(fields[:7] + fields[8:])
+        if len(fields) != 9 or numbers is None or fields[7] not in LETTERS:
+            return f"{answer!r} is no answer to an accepted query"
+        if numbers[0] != 0:
+            return f"query refused with {numbers[0]} where it is accepted"
+        return self.amperes_reason(study, bus, Amperes(*numbers[1:7]), fields[7], numbers[7])
+
+    def amperes_reason(self, study, bus, amperes, letter, given):
+        judge = self.judges(study)[bus]
+        reasons = judge.reasons(amperes)
+        reasons += verdict_reasons(amperes, letter, given, study.buses[bus])
+        reasons += self.sameness_reasons(study, bus, amperes)
+        self.tally.note_amperes(judge, amperes)
+        self.tally.verdicts[letter] += 1
+        return f"bus {bus}: " + "; ".join(reasons) if reasons else ""
+
+    def sameness_reasons(self, study, bus, amperes):
+        """Networks alike in all but their converters get the same machines' amperes."""
+        machines = tuple(source for source in study.sources if source.kind != CONVERTER)
+        key = study.tolerance, study.buses, machines, bus
+        before = self.given.setdefault(key, amperes.machines)
+        if before == amperes.machines:
+            return []
+        return [
+            f"machines' amperes {amperes.machines} differ from {before}, given for a network"
+            " alike in all but its converters"
+        ]
+
+    # The program
+
+    def program_reason(self, text, output):
+        number, row, study = Study().read(text)
+        if number:
+            self.tally.refused[number] += 1
+            due = f"refused,{number},{row}\r\n".encode()
+            return "" if output == due else f"{output[:200]!r} where {due!r} is due"
+        lines = output.split(b"\r\n")
+        if lines.pop() != b"" or len(lines) != len(study.buses):
+            return f"{output[:200]!r} is not {len(study.buses)} lines with CRLF"
+        for bus, line in enumerate(lines):
+            fields = line.decode("latin-1").split(",")
+            numbers = numbers_of(fields[:7])
+            if len(fields) != 8 or numbers is None or fields[7] not in LETTERS:
+                return f"{line!r} is no line of an accepted file"
+            if numbers[0] != bus:
+                return f"line of bus {numbers[0]} where {bus} is due"
+            reason = self.amperes_reason(study, bus, Amperes(*numbers[1:7]), fields[7], None)
+            if reason:
+                return reason
+        return ""

@@ -1,0 +1,390 @@
+"""Faults planted in the stand-in, each of which the fixed set has to find."""
+
+from fractions import Fraction
+
+from accept import Study, first_true, near_nominal, within
+from exact import (
+    CONVERTER,
+    TRANSFORMER,
+    BusRecord,
+    Network,
+    behind,
+    c_hundredths,
+    f_millionths,
+    series,
+    sine,
+    transformer_ux,
+)
+from judge import Amperes
+from reference import TABLE, StandIn
+
+FAULTS = {}
+
+
+def planted(kind):
+    """Enter a fault under its class's words: a StandIn, or the study or network of one."""
+    name = "".join(" " + c.lower() if c.isupper() else c for c in kind.__name__).strip()
+    if issubclass(kind, Study):
+        stand_in = type(kind.__name__, (StandIn,), {"study_class": kind})
+    elif issubclass(kind, Network):
+        stand_in = type(kind.__name__, (StandIn,), {"network_class": kind})
+    else:
+        stand_in = kind
+    FAULTS[name] = stand_in
+    return kind
+
+
+# Peaks
+
+
+@planted
+class WrongTableEntry(StandIn):
+    """K(137) one too low; it should be 1,037."""
+
+    def thousandths(self, values):
+        place = self.table_place(values)
+        return TABLE[place] - (place == 137)
+
+
+@planted
+class LostMinusSign(StandIn):
+    """κ with e to the power +3R/X, as document 003 prints it."""
+
+    def thousandths(self, values):
+        return int(1020 + 980 * series(Fraction(3 * self.table_place(values), 100)))
+
+
+@planted
+class RatioRoundedUp(StandIn):
+    def table_place(self, values):
+        return min(230, -(-100 * values.r // values.x))
+
+
+@planted
+class PeakTooHigh(StandIn):
+    """Two percent and five amperes above the exact peak, a little more than allowed."""
+
+    def amperes(self, study, bus):
+        given = super().amperes(study, bus)
+        exact = self.judges(study)[bus].machines.peak_estimate()
+        return given._replace(machines_peak=102 * exact // 100 + 8)
+
+
+@planted
+class ConverterPeakWithoutRoot(StandIn):
+    def amperes(self, study, bus):
+        given = super().amperes(study, bus)
+        return given._replace(converters_peak=given.converters_upper)
+
+
+# Bounds
+
+
+@planted
+class UpperOneTooTight(StandIn):
+    def amperes(self, study, bus):
+        given = super().amperes(study, bus)
+        return given._replace(machines_upper=given.machines_lower)
+
+
+@planted
+class LowerOneTooTight(StandIn):
+    def amperes(self, study, bus):
+        given = super().amperes(study, bus)
+        return given._replace(converters_lower=given.converters_upper)
+
+
+@planted
+class PairTooWide(StandIn):
+    def amperes(self, study, bus):
+        given = super().amperes(study, bus)
+        upper = given.machines_upper
+        return given._replace(machines_upper=upper + upper // 1000 + 3)
+
+
+@planted
+class ConverterAsMachine(StandIn):
+    """The converters' part entered with the machines'."""
+
+    def amperes(self, study, bus):
+        given = super().amperes(study, bus)
+        return Amperes(given.lower, given.upper, 0, 0, given.peak, 0)
+
+
+@planted
+class ConverterWidensMachines(StandIn):
+    """Machines' bounds right in themselves but not the same with a converter present."""
+
+    def amperes(self, study, bus):
+        given = super().amperes(study, bus)
+        some = any(source.kind == CONVERTER for source in study.sources)
+        return given._replace(machines_upper=given.machines_upper + some)
+
+
+@planted
+class BusZeroForAll(StandIn):
+    def amperes(self, study, bus):
+        return super().amperes(study, 0)
+
+
+# Impedances
+
+
+@planted
+class SwappedRatio(Network):
+    def rated_sides(self, b):
+        own, parent = super().rated_sides(b)
+        return parent, own
+
+
+@planted
+class ImpedanceNotReferred(Network):
+    """Branch impedance left on its own side when seen from the parent."""
+
+    def to_parent(self, b, y):
+        own, parent = self.rated_sides(b)
+        return behind(self.branch(b), (parent**2, own**2), y)
+
+
+@planted
+class TransformerFactorWithHundredth(Network):
+    """K_T with 0.06 where 0.6 is due, as document 000 prints it."""
+
+    def transformer(self, bus):
+        r, x, d = super().transformer(bus)
+        ux = self.ux(*bus.branch[3:])
+        return r * (10 * 10**6 + 60 * ux), x * (10 * 10**6 + 60 * ux), d * (10 * 10**6 + 6 * ux)
+
+
+@planted
+class SwappedResistance(Network):
+    """R and X of a generator exchanged, as document 000 prints them."""
+
+    def generator(self, source):
+        r, x, d = super().generator(source)
+        return x, r, d
+
+
+@planted
+class LowerVoltageForgotten(Network):
+    """A transformer's c by its own side, where the lower of the two voltages is due."""
+
+    def transformer(self, bus):
+        r, x, d = super().transformer(bus)
+        right = self.c(min(bus.volts, self.buses[bus.parent].volts))
+        return r * self.c(bus.volts), x * self.c(bus.volts), d * right
+
+
+@planted
+class BelowThousandVolts(Network):
+    """The lower c below 1,000 V only."""
+
+    def c(self, volts):
+        return 110 if volts == 1000 else c_hundredths(volts, self.tolerance)
+
+
+@planted
+class RootRoundedUp(Network):
+    def ux(self, uk, ur):
+        root = transformer_ux(uk, ur)
+        return root + (root * root != uk * uk - ur * ur)
+
+
+@planted
+class SineRoundedDown(Network):
+    def generator(self, source):
+        r, x, d = super().generator(source)
+        xd, s = source.fields[2], sine(source.fields[4])
+        lower = s - (s * s != 10**8 - 10**4 * source.fields[4] ** 2)
+        return r * (10**9 + xd * s), x * (10**9 + xd * s), d * (10**9 + xd * lower)
+
+
+@planted
+class FactorRoundedUp(Network):
+    def split(self, top, bottom, rho):
+        r, x, d = super().split(top, bottom, rho)
+        f = f_millionths(rho)
+        more = f + (f * f * (10000 + rho * rho) != 10**16)
+        return r * more, x * more, d * f
+
+
+@planted
+class BareSubtreeSeen(Network):
+    """A converter taken for a source behind a branch: the branch alone joins in."""
+
+    def own_admittances(self):
+        found = super().own_admittances()
+        for source in self.sources:
+            if source.kind == CONVERTER and found[source.bus] is None:
+                found[source.bus] = (1, 0, 0, 1)
+        return found
+
+
+# Verdicts
+
+
+@planted
+class WithinBelowOnly(StandIn):
+    def verdict(self, amperes, bus):
+        letter, margin = super().verdict(amperes, bus)
+        return ("C", 0) if (letter, margin) == ("W", 0) else (letter, margin)
+
+
+@planted
+class PeakTriedLast(StandIn):
+    def verdict(self, amperes, bus):
+        if amperes.lower > bus.rating:
+            return "O", amperes.lower - bus.rating
+        return super().verdict(amperes, bus)
+
+
+@planted
+class OverByUpper(StandIn):
+    def verdict(self, amperes, bus):
+        if amperes.peak <= bus.peak_rating and amperes.upper > bus.rating:
+            return "O", amperes.upper - bus.rating
+        return super().verdict(amperes, bus)
+
+
+# Grounds
+
+
+@planted
+class GroundTriedTooLate(Study):
+    """Transformer voltage tried behind the ratings."""
+
+    def bus_grounds(self, bus):
+        grounds = []
+        for number, stands in super().bus_grounds(bus):
+            grounds.append((number, stands))
+            if stands and number < 7:
+                break
+        yield from sorted(grounds, key=lambda ground: ground[0] == 7)
+
+
+@planted
+class TableFullTriedLast(Study):
+    def add_bus(self, fields):
+        number, after = super().add_bus(fields)
+        if number == 23:
+            return first_true(self.bus_grounds(BusRecord(*fields))) or 23, self
+        return number, after
+
+
+@planted
+class DepthOneTooGreat(Study):
+    def depth(self, bus):
+        branches, transformers = super().depth(bus)
+        return branches - 1, transformers
+
+
+@planted
+class RatedVoltsWithoutEnds(Study):
+    def transformer_volts_fit(self, bus):
+        parent_volts = self.buses[bus.parent].volts
+        ends = 9 * bus.volts < 10 * bus.second < 11 * bus.volts
+        return near_nominal(bus.first, parent_volts) and ends
+
+
+@planted
+class ResistanceUpToImpedance(Study):
+    def branch_fields_fit(self, bus):
+        if bus.kind == TRANSFORMER and bus.fifth == bus.fourth:
+            return within(bus.third, 10, 10**6) and within(bus.fourth, 100, 30000)
+        return super().branch_fields_fit(bus)
+
+
+@planted
+class RefusedRecordStored(Study):
+    """A bus refused for its rating is entered all the same."""
+
+    def add_bus(self, fields):
+        number, after = super().add_bus(fields)
+        if number == 9:
+            record = BusRecord(*fields)
+            return 9, type(self)(self.tolerance, self.buses + (record,), self.sources)
+        return number, after
+
+
+@planted
+class RefusedStartKeepsTolerance(Study):
+    def start(self, tolerance):
+        number, after = super().start(tolerance)
+        return number, type(self)(self.tolerance) if number else after
+
+
+@planted
+class RefusedFileKeepsStudy(Study):
+    def read(self, text):
+        number, row, after = super().read(text)
+        return number, row, self if number else after
+
+
+@planted
+class SecondClosingAccepted(Study):
+    def close(self):
+        return (0, self) if self.closed else super().close()
+
+
+@planted
+class AbsentBusTriedFirst(Study):
+    def query(self, bus):
+        return 15 if bus >= len(self.buses) else super().query(bus)
+
+
+# The file
+
+
+@planted
+class RowOneTooHigh(Study):
+    """Rows of broken text counted from 2."""
+
+    def read(self, text):
+        number, row, after = super().read(text)
+        return number, row + (number == 16), after
+
+
+@planted
+class ClosingRowBehindLast(Study):
+    def read(self, text):
+        number, row, after = super().read(text)
+        return number, row + (number == 25), after
+
+
+@planted
+class LoneLineFeedAccepted(Study):
+    def rows(self, text):
+        return super().rows(text.replace(b"\r\n", b"\n").replace(b"\n", b"\r\n"))
+
+
+@planted
+class LeadingZeroAccepted(Study):
+    def number(self, field):
+        return super().number(field.lstrip(b"0") or b"0" if field else field)
+
+
+@planted
+class NumberWraps(Study):
+    def number(self, field):
+        if field.isdigit() and len(field) == 10 and int(field) >= 2**32:
+            return int(field) % 2**32
+        return super().number(field)
+
+
+@planted
+class FormTriedBehindRecord(Study):
+    """A row of too many fields is refused only when its record is right."""
+
+    def parse(self, row):
+        letter, numbers = super().parse(row)
+        if letter is None and row.count(b",") == 11:
+            first, bus = super().parse(row.rpartition(b",")[0])
+            if first == b"B" and not within(bus[1], 100, 420000):
+                return first, bus
+        return letter, numbers
+
+
+@planted
+class LongTextReadInPart(Study):
+    def read(self, text):
+        return super().read(text[:65536])

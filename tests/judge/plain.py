@@ -1,0 +1,175 @@
+"""Document 01 once more, as plainly as it is written: fractions and recursion.
+
+The fractions are far too slow for large networks.  The self-test compares
+them with exact.py on small ones, and the same recursion in floating point on
+large ones, so that a slip in the sweeps or in the gathered whole-number
+formulas shows.
+"""
+
+from fractions import Fraction as F
+from functools import lru_cache
+
+from exact import CONVERTER, FEEDER, GENERATOR, TRANSFORMER
+
+
+def least(holds):
+    n = 0
+    while not holds(n):
+        n += 1
+    return n
+
+
+def greatest(holds):
+    return least(lambda n: not holds(n + 1))
+
+
+def c(volts, tolerance):
+    return F(105, 100) if volts <= 1000 and tolerance == 6 else F(110, 100)
+
+
+@lru_cache(None)
+def sine(p):
+    return F(least(lambda s: s * s >= 10**8 - 10**4 * p * p), 10000)
+
+
+@lru_cache(None)
+def ux(uk, ur):
+    return greatest(lambda n: n * n <= uk * uk - ur * ur)
+
+
+def f(rho):
+    """By halving, since a million steps for each source would take too long."""
+    low, high = 0, 10**6 + 1
+    while high - low > 1:
+        middle = (low + high) // 2
+        if middle**2 * (10000 + rho**2) <= 10**16:
+            low = middle
+        else:
+            high = middle
+    return low
+
+
+def series(y):
+    term, found = F(1), F(1)
+    for k in range(1, 25):
+        term = term * y / k
+        found += term
+    return found
+
+
+class Complex:
+    def __init__(self, re, im):
+        self.re, self.im = F(re), F(im)
+
+    def __add__(self, other):
+        return Complex(self.re + other.re, self.im + other.im)
+
+    def times(self, factor):
+        return Complex(self.re * factor, self.im * factor)
+
+    def inverse(self):
+        square = self.re**2 + self.im**2
+        return Complex(self.re / square, -self.im / square)
+
+
+def nearly(z):
+    return complex(float(z.re), float(z.im))
+
+
+class PlainNetwork:
+    def __init__(self, tolerance, buses, sources):
+        self.tolerance, self.buses, self.sources = tolerance, buses, sources
+
+    def c(self, volts):
+        return c(volts, self.tolerance)
+
+    def branch(self, b):
+        bus = self.buses[b]
+        if bus.kind == TRANSFORMER:
+            _, own, kva, uk, ur = bus.branch
+            x = ux(uk, ur)
+            lower = min(bus.volts, self.buses[bus.parent].volts)
+            k_t = F(95, 100) * self.c(lower) / (1 + F(6, 10) * x / 100000)
+            return Complex(ur, x).times(k_t / 100000 * F(own**2, 1000 * kva))
+        r, x, metres, circuits, _ = bus.branch
+        return Complex(r, x).times(F(metres, circuits * 10**6))
+
+    def machine(self, source):
+        volts = self.buses[source.bus].volts
+        if source.kind == GENERATOR:
+            rated, kva, xd, rho, power_factor = source.fields
+            k_g = F(volts, rated) * self.c(volts) / (1 + F(xd, 100000) * sine(power_factor))
+            x = k_g * F(xd, 100000) * F(rated**2, 1000 * kva)
+            return Complex(x * F(rho, 100), x)
+        if source.kind == FEEDER:
+            kva, rho = source.fields[:2]
+            z = self.c(volts) * volts**2 / (1000 * kva)
+        else:
+            rated, kva, ratio, rho, _ = source.fields
+            z = F(10, ratio) * F(rated**2, 1000 * kva)
+        x = z * F(f(rho), 10**6)
+        return Complex(x * F(rho, 100), x)
+
+    def neighbours(self, b):
+        near = [n for n in range(1, len(self.buses)) if self.buses[n].parent == b]
+        return near if b == 0 else [self.buses[b].parent, *near]
+
+    def ratio(self, left, arrived):
+        """Rated volts on the side arrived at over those on the side left."""
+        bus = self.buses[max(left, arrived)]
+        if bus.kind != TRANSFORMER:
+            return F(1)
+        on_parent, on_own = bus.branch[:2]
+        return F(on_own, on_parent) if arrived > left else F(on_parent, on_own)
+
+    def seen(self, b, without=None):
+        """Admittance at b without a neighbour, or None where no machine is."""
+        parts = [
+            self.machine(source).inverse()
+            for source in self.sources
+            if source.bus == b and source.kind != CONVERTER
+        ]
+        for n in self.neighbours(b):
+            y = None if n == without else self.seen(n, b)
+            if y is not None:
+                squared = self.ratio(n, b) ** 2
+                z = self.branch(max(n, b))
+                z = z if b > n else z.times(squared)
+                parts.append((z + y.inverse().times(squared)).inverse())
+        if not parts:
+            return None
+        return sum(parts[1:], parts[0])
+
+    def seen_nearly(self, b, without=None):
+        """The same in floating point, 0 where no machine is."""
+        found = 0j
+        for source in self.sources:
+            if source.bus == b and source.kind != CONVERTER:
+                found += 1 / nearly(self.machine(source))
+        for n in self.neighbours(b):
+            y = 0j if n == without else self.seen_nearly(n, b)
+            if y:
+                squared = float(self.ratio(n, b)) ** 2
+                z = nearly(self.branch(max(n, b)))
+                found += 1 / ((z if b > n else z * squared) + squared / y)
+        return found
+
+    def converters(self, b, without=None):
+        found = F(0)
+        for source in self.sources:
+            if source.bus == b and source.kind == CONVERTER:
+                found += F(source.first, 10) * F(source.second, 100)
+        for n in self.neighbours(b):
+            if n != without:
+                found += self.converters(n, b) / self.ratio(n, b)
+        return found
+
+    def current_square(self, b):
+        z = self.seen(b).inverse()
+        volts = self.buses[b].volts
+        return (self.c(volts) * volts) ** 2 / (3 * (z.re**2 + z.im**2))
+
+    def peak_square(self, b):
+        z = self.seen(b).inverse()
+        kappa = F(102, 100) + F(98, 100) / series(3 * z.re / z.im)
+        return 2 * self.current_square(b) * kappa**2

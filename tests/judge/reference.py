@@ -1,0 +1,157 @@
+"""A slow stand-in for the program and the console, made of the exact values.
+
+python3 tests/judge/reference.py program < file.csv
+python3 tests/judge/reference.py console
+
+It serves to test run.py.  Bounds are the whole numbers next to the exact
+parts, peaks come from the peak table.  --fault plants one of faults.py.
+"""
+
+import argparse
+import re
+import sys
+from math import isqrt
+
+from accept import Study
+from exact import Network, peak_thousandths
+from judge import NO_AMPERES, Amperes, Bench, verdict
+
+CALL = re.compile(r"(start|bus|source|close|query)((?:,(?:0|[1-9][0-9]{0,9}))*)")
+COUNTS = {"start": 1, "bus": 10, "source": 7, "close": 0, "query": 1}
+READ = re.compile(r"read,((?:[0-9a-fA-F]{2})*)")
+TABLE = [peak_thousandths(i) for i in range(231)]
+
+
+class StandIn:
+    """Answers calls and files; the classes of faults.py change single methods."""
+
+    study_class = Study
+    network_class = Network
+    benches = {}
+
+    def __init__(self):
+        self.study = self.study_class()
+        self.bench = self.benches.setdefault(self.network_class, Bench())
+        self.worked_out = None, None
+
+    # Amperes
+
+    def judges(self, study):
+        if self.worked_out[0] is not study:
+            network = self.network_class(study.tolerance, study.buses, study.sources)
+            self.worked_out = study, self.bench.judges(network)
+        return self.worked_out[1]
+
+    def table_place(self, values):
+        return min(230, 100 * values.r // values.x)
+
+    def thousandths(self, values):
+        return TABLE[self.table_place(values)]
+
+    def machines_peak(self, values):
+        """Least whole number not below √2·I·K/1,000."""
+        top = 2 * values.square_top * self.thousandths(values) ** 2
+        bottom = values.square_bottom * 10**6
+        n = isqrt(top // bottom)
+        return n if n * n * bottom >= top else n + 1
+
+    def amperes(self, study, bus):
+        judge = self.judges(study)[bus]
+        return Amperes(
+            judge.machines.floor(),
+            judge.machines.ceiling(),
+            judge.converters.floor(),
+            judge.converters.ceiling(),
+            self.machines_peak(judge.machines.values),
+            judge.converters.peak_ceiling(),
+        )
+
+    def verdict(self, amperes, bus):
+        return verdict(amperes, bus)
+
+    # The program
+
+    def program(self, text):
+        number, row, study = self.study_class().read(text)
+        if number:
+            return f"refused,{number},{row}\r\n".encode()
+        lines = []
+        for b, bus in enumerate(study.buses):
+            amperes = self.amperes(study, b)
+            letter, _ = self.verdict(amperes, bus)
+            lines.append(",".join(map(str, (b, *amperes, letter))) + "\r\n")
+        return "".join(lines).encode()
+
+    # The console
+
+    def answer(self, line):
+        line = line.removesuffix("\r")
+        reading = READ.fullmatch(line)
+        if reading:
+            number, row, self.study = self.study.read(bytes.fromhex(reading[1]))
+            return f"{number},{row}"
+        call = CALL.fullmatch(line)
+        if not call:
+            return "error,no such call"
+        numbers = [int(field) for field in call[2].split(",")[1:]]
+        if len(numbers) != COUNTS[call[1]] or any(number >= 2**32 for number in numbers):
+            return "error,wrong numbers"
+        return self.answer_call(call[1], numbers)
+
+    def answer_call(self, name, numbers):
+        if name == "query":
+            return self.answer_query(*numbers)
+        if name == "close":
+            number, self.study = self.study.close()
+        elif name == "start":
+            number, self.study = self.study.start(*numbers)
+        elif name == "bus":
+            number, self.study = self.study.add_bus(numbers)
+        else:
+            number, self.study = self.study.add_source(numbers)
+        return str(number)
+
+    def answer_query(self, b):
+        number = self.study.query(b)
+        amperes, letter, margin = NO_AMPERES, "C", 0
+        if not number:
+            amperes = self.amperes(self.study, b)
+            letter, margin = self.verdict(amperes, self.study.buses[b])
+        return ",".join(map(str, (number, *amperes, letter, margin)))
+
+    def console(self, lines):
+        return [self.answer(line) for line in lines]
+
+
+class InProcess:
+    """A runner without processes: a new stand-in for each console and each file."""
+
+    def __init__(self, stand_in):
+        self.stand_in = stand_in
+
+    def console(self, lines):
+        return self.stand_in().console(lines)
+
+    def program(self, text):
+        return self.stand_in().program(text)
+
+
+def main():
+    from faults import FAULTS
+
+    parser = argparse.ArgumentParser(description=__doc__.splitlines()[0])
+    parser.add_argument("role", choices=["program", "console"])
+    parser.add_argument("--fault", choices=sorted(FAULTS))
+    options = parser.parse_args()
+    stand_in = (FAULTS[options.fault] if options.fault else StandIn)()
+    if options.role == "program":
+        sys.stdout.buffer.write(stand_in.program(sys.stdin.buffer.read()))
+        return
+    for line in sys.stdin.buffer:
+        text = line.decode("latin-1").removesuffix("\n")
+        sys.stdout.write(stand_in.answer(text) + "\n")
+        sys.stdout.flush()
+
+
+if __name__ == "__main__":
+    main()

@@ -1,0 +1,296 @@
+"""Tests of the judge itself.
+
+Document 01's worked points, the sweeps against the plain definitions, the
+acceptance rules against meant numbers, and planted faults that the fixed set
+has to find.  Nothing of the product is run.
+"""
+
+import sys
+import time
+from fractions import Fraction
+from math import isqrt
+from random import Random
+
+from accept import Study
+from calls import drawn_calls
+from cases import drawn_unit, fixed_units, run_unit
+from exact import f_millionths, peak_thousandths, series, sine, transformer_ux
+from faults import FAULTS
+from fixed import fixed_networks, table_steps
+from judge import Amperes, Bench, peak_reasons, verdict
+from networks import FAMILIES, any_network, crowd, full_tree, random_tree
+from plain import PlainNetwork
+from reference import TABLE, InProcess, StandIn
+from refusals import chain_rows, lone_bus, near_misses
+from run import Commands
+from texts import meant_texts
+
+BENCH = Bench()
+
+
+class Tests:
+    def __init__(self):
+        self.passed = self.failed = 0
+
+    def same(self, name, given, due):
+        if given == due:
+            self.passed += 1
+        else:
+            self.failed += 1
+            print(f"FAILED {name}: {given!r} where {due!r} is due")
+
+    def true(self, name, given):
+        self.same(name, bool(given), True)
+
+
+def study_of(draft):
+    number, row, study = Study().read(draft.file())
+    assert (number, row) == (0, 0), (number, row)
+    return study
+
+
+def worked_factors(tests):
+    for power_factor, due in ((100, 0), (90, 4359), (80, 6000), (70, 7142)):
+        tests.same(f"sine at {power_factor}", sine(power_factor), due)
+    tests.same("ux", transformer_ux(6000, 1000), 5916)
+    for rho, due in ((0, 1000000), (10, 995037), (42, 921982)):
+        tests.same(f"f({rho})", f_millionths(rho), due)
+    for i, due in ((0, 2000), (1, 1972), (10, 1747), (42, 1298), (229, 1022), (230, 1021)):
+        tests.same(f"K({i})", peak_thousandths(i), due)
+    tests.true("T(1) below e", series(1) < Fraction("2.71828182845904523536028747135267"))
+    tests.true("T(1) near e", series(1) > Fraction("2.718281828459045235360287"))
+
+
+def worked_networks(tests):
+    networks = {name: study_of(draft) for name, draft in fixed_networks()[:6]}
+    names = list(networks)
+    alone = networks[names[0]]
+    machines = BENCH.judges(alone.network())[0].machines
+    tests.same("feeder alone", (machines.floor(), machines.ceiling()), (14433, 14434))
+    for peak, right in ((35640, False), (35641, True), (36356, True), (36357, False)):
+        tests.same(f"feeder's peak {peak}", not peak_reasons("", peak, machines), right)
+    plain = PlainNetwork(6, networks[names[1]].buses, networks[names[1]].sources)
+    seen = [plain.seen(b).inverse() for b in (0, 1)]
+    dues = [(0, Fraction(825, 1000)), (0, Fraction(11, 10))]
+    tests.same("Z of two buses", [(z.re, z.im) for z in seen], dues)
+    judge = BENCH.judges(networks[names[1]].network())[0]
+    tests.same("I at bus 0", (judge.machines.floor(), judge.machines.ceiling()), (7698, 7699))
+    study = networks[names[2]]
+    judge = BENCH.judges(study.network())[0]
+    tests.same("converter at bus 0", judge.converters.part, 200)
+    amperes = Amperes(7698, 7699, 200, 200, 0, 0)
+    tests.same("rating 7,898", verdict(amperes, study.buses[0]), ("C", 0))
+    unit = networks[names[3]]
+    plain = PlainNetwork(10, unit.buses, unit.sources)
+    behind = plain.seen(1, 0).inverse() + plain.branch(1)
+    z = behind.times(plain.ratio(1, 0) ** 2)
+    for name, given, near in (("R", z.re, "15.63"), ("X", z.im, "101.18")):
+        tests.true(f"generator unit {name}", abs(given - Fraction(near)) < Fraction(1, 100))
+    for name, r, x in ((names[4], 10, 10), (names[5], Fraction(25, 2), Fraction(15, 2))):
+        plain = PlainNetwork(6, networks[name].buses, networks[name].sources)
+        z = plain.seen(1).inverse()
+        tests.same(name, (z.re, z.im), (r, x))
+    currents = [BENCH.judges(networks[name].network())[1].machines for name in names[4:6]]
+    tests.true("a further machine lowers the current", currents[1].ceiling() < currents[0].floor())
+
+
+def worked_grounds(tests):
+    head = Study()
+    for letter, numbers in lone_bus(20000):
+        head = (head.add_bus if letter == "B" else head.add_source)(numbers)[1]
+    for rated, due in ((18000, 0), (22000, 0), (17999, 7), (22001, 7)):
+        record = (0, 20000, 2, rated, 20000, 630, 6000, 1000, 1, 1)
+        tests.same(f"rated {rated} V", head.add_bus(record)[0], due)
+    numbers, study = [], Study()
+    for letter, record in chain_rows(0, 19):
+        number, study = (study.add_bus if letter == "B" else study.add_source)(record)
+        numbers.append(number)
+    tests.same("depth 18 and 19", (any(numbers[:-1]), numbers[-1]), (False, 8))
+    line = (0, 20000, 1, 1, 1, 1, 1, 0, 1, 1)
+    while len(study.buses) < 64:
+        study = study.add_bus(line)[1]
+    number, after = study.add_bus(line)
+    tests.same("the 65th bus", (number, after is study), (23, True))
+
+
+def against_plain(tests, count=60):
+    """Sweeps and gathered formulas against fractions and recursion."""
+    drafts = [("fixed", draft) for _, draft in fixed_networks() if len(draft.buses) <= 4][:20]
+    for n in range(count):
+        rng = Random(n)
+        name, draft = any_network(rng)
+        if len(draft.buses) > 9 or draft.sources > 12:
+            name, draft = "random_tree", random_tree(rng, rng.randint(2, 8), rng.randint(1, 9))
+        drafts.append((f"{name} {n}", draft))
+    for name, draft in drafts:
+        study = study_of(draft)
+        plain = PlainNetwork(study.tolerance, study.buses, study.sources)
+        for b, judge in enumerate(BENCH.judges(study.network())):
+            values = judge.machines.values
+            square = Fraction(values.square_top, values.square_bottom)
+            tests.same(f"{name}: I squared at {b}", square, plain.current_square(b))
+            z = plain.seen(b).inverse()
+            tests.same(f"{name}: R/X at {b}", Fraction(values.r, values.x), z.re / z.im)
+            tests.same(f"{name}: converters at {b}", judge.converters.part, plain.converters(b))
+            peak = plain.peak_square(b)
+            beside = Fraction(1, 10**150)
+            signs = [
+                judge.machines.compare_peak(square.numerator, square.denominator)
+                for square in (peak - beside, peak, peak + beside)
+            ]
+            tests.same(f"{name}: peak squared at {b}", signs, [-1, 0, 1])
+
+
+def against_floats(tests):
+    """Large networks against the plain recursion in floating point, some buses of each."""
+    for n, family in enumerate(family for family in FAMILIES for _ in range(3)):
+        study = study_of(family(Random(n)))
+        plain = PlainNetwork(study.tolerance, study.buses, study.sources)
+        judges = BENCH.judges(study.network())
+        for b in {0, len(judges) // 2, len(judges) - 1}:
+            values = judges[b].machines.values
+            square = Fraction(values.square_top, values.square_bottom)
+            volts = study.buses[b].volts
+            near = (float(plain.c(volts)) * volts * abs(plain.seen_nearly(b))) ** 2 / 3
+            name = f"{family.__name__} {n}: I squared at {b} in floating point"
+            tests.true(name, abs(float(square) / near - 1) < 1e-9)
+
+
+def meant_numbers(tests):
+    for meant in near_misses() + meant_texts():
+        number, row, study = Study().read(meant.text)
+        tests.same(meant.name, (number, row), (meant.number, meant.row))
+        if number:
+            empty = study.tolerance == 6 and not (study.buses or study.sources or study.closed)
+            tests.true(f"{meant.name}: empty study", empty)
+
+
+def refused_calls(tests):
+    """A refused addition or closing gives back the very study it was made on."""
+    for n in range(20):
+        study = Study()
+        for call in drawn_calls(Random(n)):
+            name, *rest = call
+            if name not in ("bus", "source", "close"):
+                continue
+            before = study
+            methods = {"bus": study.add_bus, "source": study.add_source, "close": study.close}
+            number, study = methods[name](*rest)
+            if number and study is not before:
+                tests.true(f"refused {name} leaves the study", False)
+    tests.true("refused calls leave the study", True)
+
+
+def judge_borders(tests):
+    """Width, enclosure and peaks at their very borders."""
+    study = study_of(fixed_networks()[2][1])
+    judge = BENCH.judges(study.network())[0]
+    right = Amperes(7698, 7699, 200, 200, 21775, 283)
+    tests.same("tight amperes", judge.reasons(right), [])
+    for changes, words in (
+        ({"machines_lower": 7699}, "above the exact"),
+        ({"machines_upper": 7698}, "below the exact"),
+        ({"machines_upper": 7707}, ""),
+        ({"machines_upper": 7708}, "wider"),
+        ({"machines_lower": 7690}, ""),
+        ({"machines_lower": 7689}, "wider"),
+        ({"converters_lower": 198}, ""),
+        ({"converters_lower": 197}, "wider"),
+        ({"converters_lower": 201}, "above the exact"),
+        ({"converters_upper": 199}, "below the exact"),
+        ({"converters_peak": 282}, "below the exact"),
+        ({"converters_peak": 292}, ""),
+        ({"converters_peak": 293}, "above the exact"),
+        ({"machines_peak": 21773}, "below the exact"),
+        ({"machines_peak": 2**53}, "2^53"),
+        ({"machines_lower": -1}, "not from 0"),
+    ):
+        reasons = "; ".join(judge.reasons(right._replace(**changes)))
+        tests.true(f"{changes}: {reasons}", words in reasons if words else not reasons)
+
+
+def each_table_entry(tests):
+    """Any single entry of the peak table one too low is found by the steps of R/X."""
+    found = set()
+    for _, draft in table_steps():
+        for judge in BENCH.judges(study_of(draft).network()):
+            values = judge.machines.values
+            place = min(230, 100 * values.r // values.x)
+            lower = TABLE[place] - 1
+            peak = isqrt(2 * values.square_top * lower**2 // (values.square_bottom * 10**6)) + 1
+            if peak_reasons("", peak, judge.machines):
+                found.add(place)
+    tests.same("table entries guarded", found, set(range(231)))
+
+
+def timing(tests):
+    for family in (full_tree, crowd):
+        study = study_of(family(Random(5)))
+        begun = time.monotonic()
+        judges = Bench().judges(study.network())
+        built = time.monotonic() - begun
+        stand_in = StandIn()
+        given = [stand_in.amperes(study, b) for b in range(len(study.buses))]
+        begun = time.monotonic()
+        wrong = [judge.reasons(six) for judge, six in zip(judges, given)]
+        took = built + time.monotonic() - begun
+        size = f"{len(study.buses)} buses, {len(study.sources)} sources"
+        print(f"{family.__name__}, {size}: judged in {took:.2f} s")
+        tests.true(f"{family.__name__} judged", not any(wrong))
+
+
+def by_processes(tests):
+    """The stand-in as processes, and programs that print nothing."""
+    here = __file__.rpartition("/")[0] or "."
+    commands = [f"{sys.executable} {here}/reference.py {role}" for role in ("program", "console")]
+    units = fixed_units()
+    for unit in (units[0], units[1], units[5], units[-1]):
+        outcome = run_unit(Commands(*commands), unit, BENCH)
+        tests.true("stand-in by processes", outcome.passed and not outcome.failures)
+    outcome = run_unit(Commands("true", "true"), units[5], BENCH)
+    tests.true("silent programs", outcome.failures and not outcome.passed)
+
+
+def planted_faults(tests):
+    """Every planted fault is found by the fixed set; the stand-in without one is not blamed."""
+    units = fixed_units()
+    drawn = [drawn_unit("bytes", 1, range(50)), drawn_unit("calls", 1, range(5))]
+    refused = set()
+    for unit in units + drawn:
+        outcome = run_unit(InProcess(StandIn), unit, BENCH)
+        refused |= set(outcome.tally.refused)
+        for failure in outcome.failures:
+            print(f"{failure.name}: {failure.reason}")
+        tests.true("no fault planted", outcome.passed and not outcome.failures)
+    tests.same("grounds met", refused, set(range(1, 17)) | set(range(21, 26)))
+    for name, stand_in in FAULTS.items():
+        found = None
+        for unit in units:
+            found = found or run_unit(InProcess(stand_in), unit, BENCH).failures
+            if found:
+                break
+        tests.true(f"planted fault: {name}", found)
+        if found:
+            print(f"planted fault: {name}; found by: {found[0].name}; {len(found)} in its unit")
+
+
+def main():
+    tests = Tests()
+    worked_factors(tests)
+    worked_networks(tests)
+    worked_grounds(tests)
+    against_plain(tests)
+    against_floats(tests)
+    meant_numbers(tests)
+    refused_calls(tests)
+    judge_borders(tests)
+    each_table_entry(tests)
+    timing(tests)
+    by_processes(tests)
+    planted_faults(tests)
+    print(f"{tests.passed} passed, {tests.failed} failed")
+    return 1 if tests.failed else 0
+
+
+if __name__ == "__main__":
+    sys.exit(main())
