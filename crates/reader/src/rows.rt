@@ -3,7 +3,6 @@ ghost use Prim.Native.Nat.{_+_, _≤_, _<_};
 ghost use lib.ListN.{length, take, drop};
 ghost use Rattle.reader.specs.File.{busOf, sourceOf, recordOf, rowOf};
 ghost use Rattle.reader.specs.Stretches.{atCrlf, before};
-
 use crate::Numbers;
 use crate::Row;
 use crate::fields::numbers_of;
