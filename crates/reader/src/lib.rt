@@ -72,8 +72,8 @@ fn take_row(s: Study, row: Row) -> Answer
 fn refused(number: u32, row: u32) -> Reading
     ensures { λ r. ⌜ outcomeOf r ≡ refusedAt number row ⌝ }
 {
-    let empty = start(6);
-    let study = empty.study;
+    let left = start(6);
+    let study = left.study;
     Reading { number, row, study }
 }
 
