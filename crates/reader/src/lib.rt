@@ -6,6 +6,8 @@ ghost use Rattle.reader.specs.File.{rowNumber, afterRow, refusedAt, read
 mod fields;
 mod rows;
 
+pub use fields::numbers_of;
+
 use network::Answer;
 use network::Bus;
 use network::Source;
