@@ -5,7 +5,7 @@ use mathlib.Core.List.{List, [], _∷_}
 use Prim.Native.Nat.{ℕ, suc, _+_, _*_, _-_, _^_, _≤_, _<_}
 use native.Mathlib.Omega.{arith}
 use native.Mathlib.Numerals.{add-one}
-use borrow.Author.Tests.{eq-eqb, ne-eqb, lt-ltb, le-ltb, le-leb, lt-leb}
+use borrow.Author.Tests.{lt-ltb, le-ltb, le-leb, lt-leb}
 use lib.Dec.{leb, ltb, eqb}
 use lib.ListN.{length, drop, getD, drop-of-length-le}
 use lib.Seq.{drop-cons}
@@ -15,23 +15,16 @@ use Rattle.reader.specs.declared.Number.the-variants.{Value, Broken}
 use Rattle.reader.specs.File.{digits, decimal, valueOf}
 use Rattle.reader.specs.Stretches.{atCrlf, atComma}
 
-no-cr : (b : ℕ) (bs : List ℕ) → (b ≡ 13 → ⊥) → atCrlf (b ∷ bs) ≡ false
-no-cr b [] h = refl
-no-cr b (c ∷ bs) h = rw (ne-eqb b 13 h)
-
 module _ (l : List ℕ) (i : ℕ) (h : i < length l) where
-  pub crlf-other : (getD l i 0 ≡ 13 → ⊥) → atCrlf (drop i l) ≡ false
-  crlf-other e = rw (drop-cons l i 0 h) (no-cr (getD l i 0) (drop (suc i) l) e)
-
   pub crlf-last : length l ≤ i + 1 → atCrlf (drop i l) ≡ false
   crlf-last e =
       let k : length l ≤ suc i = omega arith in
       rw (drop-cons l i 0 h, drop-of-length-le l k)
 
-  pub crlf-next : i + 1 < length l → getD l i 0 ≡ 13 → atCrlf (drop i l) ≡ eqb (getD l (i + 1) 0) 10
-  crlf-next e cr =
+  pub crlf-next : i + 1 < length l → atCrlf (drop i l) ≡ (eqb (getD l i 0) 13 && eqb (getD l (i + 1) 0) 10)
+  crlf-next e =
       let k : suc i < length l = omega arith in
-      rw (drop-cons l i 0 h, drop-cons l (suc i) 0 k, cr, add-one i)
+      rw (drop-cons l i 0 h, drop-cons l (suc i) 0 k, add-one i)
 
   pub comma-here : atComma (drop i l) ≡ eqb (getD l i 0) 44
   comma-here = rw (drop-cons l i 0 h)

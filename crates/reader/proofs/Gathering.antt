@@ -69,6 +69,6 @@ module _ {row values : List ℕ} {count at : ℕ} (p : Progress row values count
       tests = p .tests ∙ rw (rest, v);
       counted = omega (arith, p .counted, ap length rest);
       taken =
-        rw (add-one count, take-suc-set values count n (omega (arith, p .whole)), append-assoc (take count values) (n ∷ []))
-        (p .taken ∙ rw (rest, v));
+          rw (add-one count, take-suc-set values count n (omega (arith, p .whole)), append-assoc (take count values) (n ∷ []))
+          (p .taken ∙ rw (rest, v));
     }

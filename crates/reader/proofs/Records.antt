@@ -17,14 +17,15 @@ use Rattle.reader.specs.Gathered.{Gathered}
 -- ---- a letter and the first numbers of an array of ten
 same-source : (n : ℕ) (v : List ℕ) → 7 ≤ n → sourceOf (take n v) ≡ sourceOf v
 same-source n v h =
-    rw
-    (getD-take n v 0 0 (omega arith),
-    getD-take n v 1 0 (omega arith),
-    getD-take n v 2 0 (omega arith),
-    getD-take n v 3 0 (omega arith),
-    getD-take n v 4 0 (omega arith),
-    getD-take n v 5 0 (omega arith),
-    getD-take n v 6 0 (omega arith))
+    rw (
+      getD-take n v 0 0 (omega arith),
+      getD-take n v 1 0 (omega arith),
+      getD-take n v 2 0 (omega arith),
+      getD-take n v 3 0 (omega arith),
+      getD-take n v 4 0 (omega arith),
+      getD-take n v 5 0 (omega arith),
+      getD-take n v 6 0 (omega arith),
+    )
 
 module _ (letter count : ℕ) (v : List ℕ) (few : count ≤ 10) (whole : length v ≡ 10) where
   counted : length (take count v) ≡ count
@@ -70,9 +71,10 @@ too-many : (first : Bool) (letter : ℕ) (v : List ℕ) → 10 < length v → re
 unfolding recordOf
 too-many true letter v h = rw (last-false (eqb letter 83) (ne-eqb (length v) 1 (λ e. omega arith)))
 too-many false letter v h =
-    rw
-    (last-false (eqb letter 66) (ne-eqb (length v) 10 (λ e. omega arith)),
-    last-false (eqb letter 80) (ne-eqb (length v) 7 (λ e. omega arith)))
+    rw (
+      last-false (eqb letter 66) (ne-eqb (length v) 10 (λ e. omega arith)),
+      last-false (eqb letter 80) (ne-eqb (length v) 7 (λ e. omega arith)),
+    )
 
 module _ (first : Bool) (letter : ℕ) (fs : List (List ℕ)) (r : Numbers) (g : Gathered fs r) where
   pub fields-taken : r .ok ≡ true → fieldsRow first letter fs ≡ recordOf first letter (take (r .count) (r .values))

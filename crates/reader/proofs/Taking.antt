@@ -1,45 +1,48 @@
 -- The rows of a text taken one after the other: the next row, and the outcome as it stands before and after it.
-use mathlib.Core.Path.{_≡_, refl, ap, sym, _∙_}
-use mathlib.Core.Bool.{Bool, true, false, _||_}
+use mathlib.Core.Path.{_≡_}
 use mathlib.Core.List.{List, [], _∷_}
-use Prim.Native.Nat.{ℕ, _+_, _≤_, _<_}
+use Prim.Native.Nat.{ℕ, _+_, _-_, _≤_, _<_}
 use native.Mathlib.Omega.{arith}
-use native.Mathlib.Nat.{add-assoc}
 use borrow.Author.Tests.{ne-eqb}
-use lib.Dec.{ltb, eqb}
-use lib.ListN.{length, drop, length-drop}
+use lib.Dec.{eqb}
+use lib.ListN.{length, take, drop, length-drop, drop-of-length-le}
 use lib.Seq.{drop-drop}
 use Rattle.network.specs.Network.{Network}
 use Rattle.network.specs.Grounds.{closeNumber, afterClose}
-use Rattle.network.specs.Calls.{emptyNetwork}
 use Rattle.reader.specs.declared.Row.{Row}
-use Rattle.reader.specs.File.{rows, rowOf, rowNumber, afterRow, refusedAt, acceptedAs, closeAfter, readFrom, readOf}
+use Rattle.reader.specs.File.{rows, rowOf, rowNumber, afterRow, refusedAt, acceptedAs, closeAfter, readFrom}
 use Rattle.reader.specs.Stretches.{atCrlf, before, stretch, rows-step}
 
 rows-first : (l : List ℕ) → 0 < length l → rows l ≡ stretch atCrlf l ∷ rows (drop (before atCrlf l + 2) l)
 rows-first [] h = absurd (omega arith)
 rows-first (b ∷ bs) h = rows-step b bs
 
--- the row that begins at a place, and those after its CRLF
-pub rows-at : (text : List ℕ) (at : ℕ) → at < length text → rows (drop at text) ≡ stretch atCrlf (drop at text) ∷ rows (drop (at + before atCrlf (drop at text) + 2) text)
-rows-at text at h =
-    let n = before atCrlf (drop at text) in
-    rw (rows-first (drop at text) (omega (arith, length-drop at text)), drop-drop (n + 2) at text, add-assoc at n 2)
+-- the row that begins at a place, what it says, and the rows after its CRLF
+module _ (text : List ℕ) (at end i : ℕ) (n : Network) (said : Row) (h : at < length text) (e : end ≡ at + before atCrlf (drop at text)) (s : said ≡ rowOf (eqb i 0) (take (end - at) (drop at text))) where
+  next : rows (drop at text) ≡ take (end - at) (drop at text) ∷ rows (drop (end + 2) text)
+  next =
+      let k = before atCrlf (drop at text) in
+      let w : end - at ≡ k = omega arith in
+      let later : at + (k + 2) ≡ end + 2 = omega arith in
+      rw (rows-first (drop at text) (omega (arith, length-drop at text)), drop-drop (k + 2) at text, w, later)
 
-module _ (i : ℕ) (n : Network) (r : List ℕ) (rs : List (List ℕ)) where
-  pub row-accepted : rowNumber n (rowOf (eqb i 0) r) ≡ 0 → readFrom i n (r ∷ rs) ≡ readFrom (i + 1) (afterRow n (rowOf (eqb i 0) r)) rs
+  pub row-accepted : rowNumber n said ≡ 0 → readFrom i n (rows (drop at text)) ≡ readFrom (i + 1) (afterRow n said) (rows (drop (end + 2) text))
   unfolding readFrom
-  row-accepted e = rw e
+  row-accepted z = rw (next, ← s, z)
 
-  pub row-refused : (k : ℕ) → rowNumber n (rowOf (eqb i 0) r) ≡ k → (k ≡ 0 → ⊥) → readFrom i n (r ∷ rs) ≡ refusedAt k (i + 1)
+  pub row-refused : (k : ℕ) → k ≡ rowNumber n said → (k ≡ 0 → ⊥) → readFrom i n (rows (drop at text)) ≡ refusedAt k (i + 1)
   unfolding readFrom
-  row-refused k e h = rw (e, ne-eqb k 0 h)
+  row-refused k z r = rw (next, ← s, ← z, ne-eqb k 0 r)
+
+pub rows-end : (text : List ℕ) (at i : ℕ) (n : Network) → length text ≤ at → readFrom i n (rows (drop at text)) ≡ closeAfter i n
+unfolding readFrom
+rows-end text at i n h = rw (drop-of-length-le text h)
 
 module _ (i : ℕ) (n : Network) where
   pub close-accepted : closeNumber n ≡ 0 → closeAfter i n ≡ acceptedAs (afterClose n)
   unfolding closeAfter
   close-accepted e = rw e
 
-  pub close-refused : (k : ℕ) → closeNumber n ≡ k → (k ≡ 0 → ⊥) → closeAfter i n ≡ refusedAt k i
+  pub close-refused : (k : ℕ) → k ≡ closeNumber n → (k ≡ 0 → ⊥) → closeAfter i n ≡ refusedAt k i
   unfolding closeAfter
-  close-refused k e h = rw (e, ne-eqb k 0 h)
+  close-refused k e h = rw (← e, ne-eqb k 0 h)

@@ -8,11 +8,12 @@ use lib.ListN.{length, getD}
 use Rattle.network.specs.declared.Bus.{Bus}
 use Rattle.network.specs.declared.Source.{Source}
 use Rattle.network.specs.Records.{within}
-use Rattle.network.specs.Network.{Network}
+use Rattle.network.specs.Network.{Network, network}
 use Rattle.network.specs.Grounds.{startNumber, startNetwork, busNumber, afterBus, sourceNumber, afterSource, closeNumber, afterClose}
 use Rattle.network.specs.Calls.{emptyNetwork}
 use Rattle.reader.specs.declared.Number.{Number}
 use Rattle.reader.specs.declared.Number.the-variants.{Value, Broken}
+use Rattle.reader.specs.declared.Reading.{Reading}
 use Rattle.reader.specs.declared.Row.{Row}
 use Rattle.reader.specs.declared.Row.the-variants.{Start, WithBus, WithSource, Malformed}
 
@@ -135,6 +136,9 @@ pub record Outcome : Type 0 where
   pub number : ℕ
   pub row : ℕ
   pub network : Network
+
+abbrev pub outcomeOf : Reading → Outcome
+outcomeOf r = record { number = r .number; row = r .row; network = network (r .study) }
 
 -- "giving number and row (from 1), and an empty open study of tolerance 6"
 abbrev pub refusedAt : ℕ → ℕ → Outcome

@@ -1,3 +1,4 @@
 pub mod File
 pub mod Stretches
 pub mod Gathered
+pub mod Accepted

@@ -99,14 +99,26 @@ pub fn numbers_of(row: &[u8]) -> Numbers
         let next = at + part.len() + 1;
         let number = number_of(part);
         let Number::Value(n) = number else {
-            return Numbers { ok: false, count, values };
+            return Numbers {
+                ok: false,
+                count,
+                values,
+            };
         };
         if 10 <= count {
-            return Numbers { ok: false, count, values };
+            return Numbers {
+                ok: false,
+                count,
+                values,
+            };
         }
         values[count] = n;
         count += 1;
         at = next;
     }
-    Numbers { ok: true, count, values }
+    Numbers {
+        ok: true,
+        count,
+        values,
+    }
 }

@@ -1,7 +1,10 @@
 // From the text of a file to a study: rows, fields, numbers, records.
 ghost use mathlib.Core.Path.{_≡_};
+ghost use Prim.Native.Nat.{_≤_};
+ghost use lib.ListN.{length};
 ghost use Rattle.network.specs.Network.{network};
-ghost use Rattle.reader.specs.File.{rowNumber, afterRow, refusedAt, readOf};
+ghost use Rattle.network.specs.Calls.{emptyNetwork};
+ghost use Rattle.reader.specs.File.{rows, rowNumber, afterRow, outcomeOf, refusedAt, closeAfter, readFrom, readOf};
 
 mod fields;
 mod rows;
@@ -69,30 +72,39 @@ fn take_row(s: Study, row: Row) -> Answer
 
 // A refused text leaves an empty open study of tolerance 6.
 fn refused(number: u32, row: u32) -> Reading
-    ensures number { λ r. ⌜ r .number ≡ number ⌝ }
-    ensures row { λ r. ⌜ r .row ≡ row ⌝ }
-    ensures network { λ r. ⌜ network (r .study) ≡ refusedAt number row .network ⌝ }
+    ensures { λ r. ⌜ outcomeOf r ≡ refusedAt number row ⌝ }
 {
-    let empty = start(6);
-    let study = empty.study;
+    let left = start(6);
+    let study = left.study;
     Reading { number, row, study }
 }
 
-// The study that a text gives, closed. It stops at the first row that is refused.
-pub fn read(text: &[u8]) -> Reading
-    ensures number { λ r. ⌜ r .number ≡ readOf (now (text .entry)) .number ⌝ }
-    ensures row { λ r. ⌜ r .row ≡ readOf (now (text .entry)) .row ⌝ }
-    ensures network { λ r. ⌜ network (r .study) ≡ readOf (now (text .entry)) .network ⌝ }
+// The study closed after its last row.
+fn closed_after(row: u32, s: Study) -> Reading
+    ensures { λ r. ⌜ outcomeOf r ≡ closeAfter row (network s) ⌝ }
 {
-    let n = text.len();
-    if (n == 0) | (BYTES < n) {
-        return refused(16, 1);
+    let last = close(s);
+    if last.number != 0 {
+        return refused(last.number, row);
     }
+    let study = last.study;
+    Reading {
+        number: 0,
+        row: 0,
+        study,
+    }
+}
+
+// The rows of a text taken in order, up to the first that is refused.
+fn read_rows(text: &[u8]) -> Reading
+    requires { ⌜ length (now text) ≤ 65536 ⌝ }
+    ensures { λ r. ⌜ outcomeOf r ≡ readFrom 0 emptyNetwork (rows (now (text .entry))) ⌝ }
+{
     let empty = start(6);
     let mut study = empty.study;
     let mut row: u32 = 0;
     let mut at: usize = 0;
-    while at < n {
+    while at < text.len() {
         let end = row_end(text, at);
         let said = row_of(row == 0, &text[at..end]);
         let answer = take_row(study, said);
@@ -103,14 +115,18 @@ pub fn read(text: &[u8]) -> Reading
         study = answer.study;
         at = end + 2;
     }
-    let last = close(study);
-    if last.number != 0 {
-        return refused(last.number, row);
+    closed_after(row, study)
+}
+
+// The study that a text gives, closed, or the first ground on which it is refused, with the row.
+pub fn read(text: &[u8]) -> Reading
+    ensures number { λ r. ⌜ r .number ≡ readOf (now (text .entry)) .number ⌝ }
+    ensures row { λ r. ⌜ r .row ≡ readOf (now (text .entry)) .row ⌝ }
+    ensures network { λ r. ⌜ network (r .study) ≡ readOf (now (text .entry)) .network ⌝ }
+{
+    let n = text.len();
+    if (1 <= n) & (n <= BYTES) {
+        return read_rows(text);
     }
-    let closed = last.study;
-    Reading {
-        number: 0,
-        row: 0,
-        study: closed,
-    }
+    refused(16, 1)
 }

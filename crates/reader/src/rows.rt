@@ -3,7 +3,6 @@ ghost use Prim.Native.Nat.{_+_, _≤_, _<_};
 ghost use lib.ListN.{length, take, drop};
 ghost use Rattle.reader.specs.File.{busOf, sourceOf, recordOf, rowOf};
 ghost use Rattle.reader.specs.Stretches.{atCrlf, before};
-
 use crate::Numbers;
 use crate::Row;
 use crate::fields::numbers_of;
@@ -15,13 +14,11 @@ fn ends_row(text: &[u8], i: usize) -> bool
     requires { ⌜ i < length (now text) ⌝ }
     ensures { λ r. ⌜ r ≡ atCrlf (drop i (now (text .entry))) ⌝ }
 {
-    if text[i] != b'\r' {
+    let next = i + 1;
+    if text.len() <= next {
         return false;
     }
-    if text.len() <= i + 1 {
-        return false;
-    }
-    text[i + 1] == b'\n'
+    (text[i] == b'\r') & (text[next] == b'\n')
 }
 
 // Where the row that begins at a place ends: at its CRLF, or with the text.

@@ -1,0 +1,29 @@
+use mathlib.Core.Path.{_≡_, refl, ap, _∙_}
+use lib.ListN.{length}
+use Rattle.network.specs.Network.{network}
+use Rattle.network.specs.Tests.{within-true}
+use Rattle.reader.specs.declared.Reading.{Reading}
+use Rattle.reader.specs.File.{Outcome, outcomeOf, readOf}
+use borrow.Author.Needs.{needs}
+use Rattle.reader.proofs.read.Statement.{statement}
+use Rattle.reader.proofs.read.Tie as tie
+
+parts : (r : Reading) (o : Outcome) → outcomeOf r ≡ o → (r .number ≡ o .number) × ((r .row ≡ o .row) × (network (r .study) ≡ o .network))
+parts r o e = (ap (λ (x : Outcome). x .number) e, (ap (λ (x : Outcome). x .row) e, ap (λ (x : Outcome). x .network) e))
+
+read-rows-requires : tie.Need-read-rows-requires
+read-rows-requires c κs = within-true (length (c .before .before .args .text .now)) 1 65536 (c .if1 .taken) .1
+
+returns : tie.Need-returns
+unfolding readOf
+returns c = parts (c .read-rows .result) _ (c .read-rows .ensures ∙ rw (c .before .if1 .taken) refl)
+
+refused-requires : tie.Need-refused-requires
+refused-requires c κs = search needs
+
+returns-2 : tie.Need-returns-2
+unfolding readOf
+returns-2 c = parts (c .refused .result) _ (c .refused .ensures ∙ rw (c .before .if1 .left) refl)
+
+pub read-spec : {M : Type 1} → statement M
+read-spec = tie.close (tie.spec read-rows-requires returns refused-requires returns-2)
