@@ -86,10 +86,14 @@ pub fn put_letter(line: &mut [u8; LINE], at: usize, v: Verdict) -> usize {
     put(line, to, &[letter(v)])
 }
 
-// Writes the line up to a place.
-pub fn send(line: &[u8], end: usize) {
+fn send_part(line: &[u8], end: usize) {
     if end <= line.len() {
         let written = &line[0..end];
         io::write_all(STDOUT_FILENO, written);
     }
+}
+
+// Writes the line up to a place.
+pub fn send(line: &[u8; LINE], end: usize) {
+    send_part(line, end);
 }

@@ -10,7 +10,6 @@ mod fields;
 mod rows;
 
 pub use fields::numbers_of;
-
 use network::Answer;
 use network::Bus;
 use network::Source;
