@@ -9,6 +9,7 @@ ghost use Rattle.reader.specs.File.{rows, rowNumber, afterRow, outcomeOf
 mod fields;
 mod rows;
 
+pub use fields::numbers_of;
 use network::Answer;
 use network::Bus;
 use network::Source;

@@ -1,0 +1,139 @@
+// The calls. Each takes the study, what stands after its word, and gives the study after it.
+use crate::answers::print_error;
+use crate::answers::print_found;
+use crate::answers::print_number;
+use crate::answers::print_reading;
+use crate::hex::Decoded;
+use crate::hex::TEXT;
+use crate::hex::decode;
+use crate::hex::text_of;
+use crate::words::after;
+use crate::words::begins;
+use crate::words::is;
+use network::Bus;
+use network::Source;
+use network::Study;
+use reader::Numbers;
+use reader::numbers_of;
+
+// Whether these are so many numbers; says what is wrong where they are not. An eleventh field is one too many, whatever it says.
+fn takes(n: Numbers, wanted: usize) -> bool {
+    if n.ok {
+        if n.count == wanted {
+            return true;
+        }
+        print_error(b"fields");
+        return false;
+    }
+    if n.count == 10 {
+        print_error(b"fields");
+    } else {
+        print_error(b"number");
+    }
+    false
+}
+
+fn make_start(s: Study, rest: &[u8]) -> Study {
+    let n = numbers_of(rest);
+    let v = n.values;
+    if takes(n, 1) {
+        let done = network::start(v[0]);
+        print_number(done.number);
+        return done.study;
+    }
+    s
+}
+
+fn make_bus(s: Study, rest: &[u8]) -> Study {
+    let n = numbers_of(rest);
+    let v = n.values;
+    if takes(n, 10) {
+        let b = Bus {
+            parent: v[0],
+            volts: v[1],
+            kind: v[2],
+            f1: v[3],
+            f2: v[4],
+            f3: v[5],
+            f4: v[6],
+            f5: v[7],
+            rating: v[8],
+            peak_rating: v[9],
+        };
+        let done = network::add_bus(s, b);
+        print_number(done.number);
+        return done.study;
+    }
+    s
+}
+
+fn make_source(s: Study, rest: &[u8]) -> Study {
+    let n = numbers_of(rest);
+    let v = n.values;
+    if takes(n, 7) {
+        let p = Source {
+            kind: v[0],
+            bus: v[1],
+            f1: v[2],
+            f2: v[3],
+            f3: v[4],
+            f4: v[5],
+            f5: v[6],
+        };
+        let done = network::add_source(s, p);
+        print_number(done.number);
+        return done.study;
+    }
+    s
+}
+
+fn make_close(s: Study) -> Study {
+    let done = network::close(s);
+    print_number(done.number);
+    done.study
+}
+
+fn make_query(s: Study, rest: &[u8]) -> Study {
+    let n = numbers_of(rest);
+    let v = n.values;
+    if takes(n, 1) {
+        let found = network::query(s, v[0]);
+        print_found(found);
+    }
+    s
+}
+
+fn make_read(s: Study, rest: &[u8], text: &mut [u8; TEXT]) -> Study {
+    let decoded = decode(rest, text);
+    let Decoded::Bytes(n) = decoded else {
+        print_error(b"hex");
+        return s;
+    };
+    let reading = reader::read(text_of(text, n));
+    print_reading(reading.number, reading.row);
+    reading.study
+}
+
+// The study after the call that a line names.
+pub fn make_call(s: Study, line: &[u8], text: &mut [u8; TEXT]) -> Study {
+    if begins(line, b"start,") {
+        return make_start(s, after(line, 6));
+    }
+    if begins(line, b"bus,") {
+        return make_bus(s, after(line, 4));
+    }
+    if begins(line, b"source,") {
+        return make_source(s, after(line, 7));
+    }
+    if is(line, b"close") {
+        return make_close(s);
+    }
+    if begins(line, b"query,") {
+        return make_query(s, after(line, 6));
+    }
+    if begins(line, b"read,") {
+        return make_read(s, after(line, 5), text);
+    }
+    print_error(b"unknown call");
+    s
+}

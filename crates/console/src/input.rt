@@ -1,0 +1,119 @@
+// Lines of standard input, by way of a chunk of its bytes.
+use libc::STDIN_FILENO;
+
+pub const CHUNK: usize = 4096;
+
+// Room for the longest line, the CR of its end and one byte more, by which a longer line is seen to be longer.
+pub const LINE_ROOM: usize = 140_002;
+
+// The bytes of the chunk that are not used yet: from `at` up to `filled`.
+pub struct Cursor {
+    pub at: usize,
+    pub filled: usize,
+}
+
+// The next byte, unless the input has ended.
+struct Step {
+    ended: bool,
+    byte: u8,
+    cursor: Cursor,
+}
+
+// The bytes of a line, without its end, unless the input ended before it began.
+pub struct Line {
+    pub ended: bool,
+    pub length: usize,
+    pub cursor: Cursor,
+}
+
+// Fills the chunk anew, and gives the number of bytes, 0 at the end of the input.
+fn refill(chunk: &mut [u8]) -> usize {
+    let got = libc::read(STDIN_FILENO, chunk);
+    io::count(got, chunk)
+}
+
+fn first_byte(chunk: &mut [u8; CHUNK]) -> Step {
+    let filled = refill(chunk);
+    Step {
+        ended: filled == 0,
+        byte: chunk[0],
+        cursor: Cursor { at: 1, filled },
+    }
+}
+
+fn next_byte(chunk: &mut [u8; CHUNK], cursor: Cursor) -> Step {
+    let at = cursor.at;
+    if at < cursor.filled {
+        if at < CHUNK {
+            return Step {
+                ended: false,
+                byte: chunk[at],
+                cursor: Cursor {
+                    at: at + 1,
+                    filled: cursor.filled,
+                },
+            };
+        }
+    }
+    first_byte(chunk)
+}
+
+// The length without a CR that ends the line.
+fn without_return(line: &[u8; LINE_ROOM], length: usize) -> usize {
+    if 0 < length {
+        if length < LINE_ROOM {
+            if line[length - 1] == b'\r' {
+                return length - 1;
+            }
+        }
+    }
+    length
+}
+
+// Reads up to an LF or the end of the input. Of a line that is longer than the room the first bytes are kept.
+pub fn read_line(chunk: &mut [u8; CHUNK], cursor: Cursor, line: &mut [u8; LINE_ROOM]) -> Line {
+    let mut here = cursor;
+    let mut length: usize = 0;
+    let mut turns = u64::MAX;
+    while turns > 0 {
+        turns -= 1;
+        let step = next_byte(chunk, here);
+        here = step.cursor;
+        if step.ended {
+            return Line {
+                ended: length == 0,
+                length: without_return(line, length),
+                cursor: here,
+            };
+        }
+        if step.byte == b'\n' {
+            return Line {
+                ended: false,
+                length: without_return(line, length),
+                cursor: here,
+            };
+        }
+        if length < LINE_ROOM {
+            line[length] = step.byte;
+            length += 1;
+        }
+    }
+    Line {
+        ended: true,
+        length: 0,
+        cursor: here,
+    }
+}
+
+// The first bytes of a slice.
+pub fn part(bytes: &[u8], length: usize) -> &[u8] {
+    if length <= bytes.len() {
+        return &bytes[0..length];
+    }
+    bytes
+}
+
+// The bytes of the line.
+pub fn bytes_of(line: &[u8; LINE_ROOM], length: usize) -> &[u8] {
+    part(line, length)
+}
