@@ -58,7 +58,8 @@ transformerVoltsOk parent b = not (eqb (b .kind) 2) || (ratedOk (b .f1) (parent 
 unfoldable pub depthOk : List Bus → ℕ → Bool
 depthOk l i = leb (depthOf l i) maxBranches && leb (transformersOf l i) maxTransformers
 
--- the grounds in the input for the record of bus i, as it stands in a list of bus records; later records do not matter
+-- the grounds in the input for the record of bus i, as it stands in a list of bus records; the records after it do not matter
+-- (`bus-record-same`)
 abbrev pub busGrounds : List Bus → ℕ → List Ground
 busGrounds l i =
     on (voltsOk (busAt l i)) 2

@@ -56,8 +56,8 @@ parentOf l i = busAt l (busAt l i .parent)
 abbrev pub sourceAt : List Source → ℕ → Source
 sourceAt l j = getD l j blankSource
 
--- The branches on the way from bus i to bus 0, each counted as `weight` says of the record of its lower bus. "Any other bus names
--- a parent with a smaller number": the way goes on while numbers fall, so that i steps are enough.
+-- The branches on the way from bus i to bus 0, each counted as `weight` says of the record that holds it, that of the bus farther
+-- from bus 0. "Any other bus names a parent with a smaller number": the way goes on while numbers fall, so that i steps are enough.
 unfoldable pub along : (Bus → ℕ) → List Bus → ℕ → ℕ → ℕ
 along weight l zero i = 0
 along weight l (suc steps) i =

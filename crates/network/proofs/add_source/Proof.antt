@@ -1,3 +1,4 @@
+-- `add_source` meets its contract. An accepted record found room, so that the store stays in the array and the list has it at its end.
 use mathlib.Core.Path.{_≡_, refl, sym, _∙_}
 use Prim.Native.Nat.{_<_}
 use native.Mathlib.Omega.{arith}

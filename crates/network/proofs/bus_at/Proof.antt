@@ -1,4 +1,6 @@
+-- `bus_at` meets its contract: past the count and past the array the list has no record, else it has the array's.
 use mathlib.Core.Path.{_≡_, sym, _∙_}
+use native.Mathlib.Omega.{arith}
 use lib.ListN.{length}
 use lib.Seq.{getD-take}
 use Rattle.network.specs.Network.{maxBuses, blank}
@@ -14,7 +16,7 @@ returns : tie.Need-returns
 returns c =
     let a = c .before .before .args in
     let h : length (a .t1 .buses) ≡ maxBuses = search (needs, length-mapped) in
-    c .blank-bus .ensures ∙ sym (past-count maxBuses (a .t1 .«bus_count») (a .t1 .buses) h (a .i) blank (c .before .if1 .taken))
+    c .blank-bus .ensures ∙ sym (past-count maxBuses (a .t1 .«bus_count») (a .t1 .buses) h (a .i) blank (omega arith))
 
 blank-bus-requires-2 : tie.Need-blank-bus-requires-2
 blank-bus-requires-2 c κs = search needs
@@ -23,7 +25,7 @@ returns-2 : tie.Need-returns-2
 returns-2 c =
     let a = c .before .before .before .args in
     let h : length (a .t1 .buses) ≡ maxBuses = search (needs, length-mapped) in
-    c .blank-bus2 .ensures ∙ sym (past-array maxBuses (a .t1 .«bus_count») (a .t1 .buses) h (a .i) blank (c .before .if2 .taken))
+    c .blank-bus2 .ensures ∙ sym (past-array maxBuses (a .t1 .«bus_count») (a .t1 .buses) h (a .i) blank (omega arith))
 
 mul-result : tie.Need-mul-result
 mul-result c = search needs
@@ -32,7 +34,9 @@ element-copy-out-result : tie.Need-element-copy-out-result
 element-copy-out-result c = search needs
 
 returns-3 : tie.Need-returns-3
-returns-3 c = sym (getD-take _ _ _ _ (c .before .before .if1 .left))
+returns-3 c =
+    let a = c .before .before .before .args in
+    sym (getD-take (a .t1 .«bus_count») (a .t1 .buses) (a .i) blank (omega arith))
 
 pub bus-at-spec : {M : Type 1} → statement M
 bus-at-spec =

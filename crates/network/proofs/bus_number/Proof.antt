@@ -1,3 +1,5 @@
+-- `bus_number` meets its contract. The array with the record at the count agrees with the list with the record at its end up to that
+-- place, and the number of a record goes by nothing else (`bus-record-same`).
 use mathlib.Core.Path.{_≡_, sym, _∙_}
 use mathlib.Core.List.{[], _∷_, _++_}
 use native.Mathlib.Omega.{arith}

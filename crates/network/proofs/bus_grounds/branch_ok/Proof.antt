@@ -1,3 +1,4 @@
+-- `branch_ok` meets its contract, kind by kind.
 use borrow.Author.Tests.{ne-eqb}
 use Rattle.network.specs.Records.{branchOk}
 use borrow.Author.Needs.{needs}

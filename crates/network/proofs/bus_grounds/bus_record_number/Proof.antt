@@ -1,3 +1,4 @@
+-- `bus_record_number` meets its contract: the chain of grounds, link by link, each test by what its function ensures.
 use mathlib.Core.Path.{refl, ap, _∙_}
 use Rattle.network.specs.declared.Bus.{Bus}
 use Rattle.network.specs.Network.{busAt}

@@ -1,3 +1,4 @@
+-- `depth_ok` meets its contract, by what `way_of` ensures.
 use Rattle.network.specs.Grounds.{depthOk}
 use borrow.Author.Needs.{needs}
 use Rattle.network.proofs.bus_grounds.depth_ok.Statement.{statement}

@@ -1,3 +1,4 @@
+-- `if_transformer` meets its contract, by the two answers of its test.
 use borrow.Author.Tests.{eq-eqb, ne-eqb}
 use Rattle.network.proofs.bus_grounds.if_transformer.Statement.{statement}
 use Rattle.network.proofs.bus_grounds.if_transformer.Tie as tie

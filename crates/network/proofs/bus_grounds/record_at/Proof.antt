@@ -1,3 +1,4 @@
+-- `record_at` meets its contract: past the array a list has no record.
 use mathlib.Core.Path.{_≡_, sym, _∙_}
 use lib.ListN.{length, List·getD-eq-default}
 use native.Mathlib.Omega.{arith}

@@ -1,3 +1,4 @@
+-- `transformer_volts_ok` meets its contract, by what `rated_ok` ensures on both sides.
 use borrow.Author.Needs.{needs}
 use Rattle.network.proofs.bus_grounds.transformer_volts_ok.Statement.{statement}
 use Rattle.network.proofs.bus_grounds.transformer_volts_ok.Tie as tie

@@ -1,3 +1,4 @@
+-- `fields_ok` meets its contract, kind by kind.
 use borrow.Author.Tests.{ne-eqb}
 use Rattle.network.specs.Records.{fieldsOk}
 use borrow.Author.Needs.{needs}

@@ -1,3 +1,4 @@
+-- `machine_volts_ok` meets its contract, by what `rated_ok` ensures.
 use borrow.Author.Needs.{needs}
 use Rattle.network.proofs.source_grounds.machine_volts_ok.Statement.{statement}
 use Rattle.network.proofs.source_grounds.machine_volts_ok.Tie as tie

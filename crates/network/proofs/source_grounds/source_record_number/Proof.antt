@@ -1,3 +1,4 @@
+-- `source_record_number` meets its contract: the chain of grounds, link by link, each test by what its function ensures.
 use mathlib.Core.Path.{refl, ap, _∙_}
 use Prim.Native.Nat.{ℕ}
 use lib.Dec.{ltb}
