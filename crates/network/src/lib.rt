@@ -9,6 +9,7 @@ ghost use Rattle.network.specs.Grounds.{emptyOf, startNumber, startNetwo
 mod bus_grounds;
 mod checks;
 mod columns;
+mod converters;
 mod records;
 mod source_grounds;
 mod walk;
