@@ -10,6 +10,7 @@ mod bus_grounds;
 mod checks;
 mod columns;
 mod converters;
+mod figures;
 mod records;
 mod source_grounds;
 mod walk;
