@@ -3,8 +3,9 @@
 ghost use mathlib.Core.Path.{_≡_};
 ghost use mathlib.Core.Bool.{true, false};
 ghost use lib.ListN.{length};
-ghost use Rattle.network.specs.Network.{blank, blankSource, network, busAt, sourceAt};
+ghost use Rattle.network.specs.Network.{blank, blankSource, network, busAt};
 ghost use Rattle.network.specs.Verdict.{verdictOf};
+ghost use Rattle.network.specs.Promise.{Promise};
 ghost use Rattle.network.specs.Query.{queryNumber, noAmperes, amperesGiven, verdictGiven};
 ghost use Rattle.network.specs.Grounds.{emptyOf, startNumber, startNetwork, busNumber, afterBus, sourceNumber, afterSource, closeNumber, afterClose};
 
@@ -144,7 +145,7 @@ pub fn bus_total(s: Study) -> usize
 }
 
 // The number of sources.
-pub fn source_total(s: Study) -> usize
+fn source_total(s: Study) -> usize
     ensures { λ r. ⌜ r ≡ length (network s .sources) ⌝ }
 {
     if s.source_count < SOURCES {
@@ -154,7 +155,7 @@ pub fn source_total(s: Study) -> usize
 }
 
 // The record of bus i, blank past the last one.
-pub fn bus_at(s: Study, i: usize) -> Bus
+fn bus_at(s: Study, i: usize) -> Bus
     ensures { λ r. ⌜ r ≡ busAt (network s .buses) i ⌝ }
 {
     if s.bus_count <= i {
@@ -164,33 +165,6 @@ pub fn bus_at(s: Study, i: usize) -> Bus
         return blank_bus();
     }
     s.buses[i]
-}
-
-// The record of the source at place j, blank past the last one.
-pub fn source_at(s: Study, j: usize) -> Source
-    ensures { λ r. ⌜ r ≡ sourceAt (network s .sources) j ⌝ }
-{
-    if s.source_count <= j {
-        return blank_source();
-    }
-    if SOURCES <= j {
-        return blank_source();
-    }
-    s.sources[j]
-}
-
-// The voltage tolerance in percent.
-pub fn tolerance_of(s: Study) -> u32
-    ensures { λ r. ⌜ r ≡ network s .tolerance ⌝ }
-{
-    s.tolerance
-}
-
-// Whether the study is closed.
-pub fn is_closed(s: Study) -> bool
-    ensures { λ r. ⌜ r ≡ network s .closed ⌝ }
-{
-    s.closed
 }
 
 // An open study without records.
@@ -366,8 +340,8 @@ fn refused(number: u32) -> Found
     }
 }
 
-// The six amperes of a bus, and its verdict. Refused: 22 not closed, 15 no such bus; then the amperes are 0 and the verdict is close.
-pub fn query(s: Study, bus: u32) -> Found
+// What a query gives. Refused: 22 not closed, 15 no such bus; then the amperes are 0 and the verdict is close.
+fn given(s: Study, bus: u32) -> Found
     ensures number { λ r. ⌜ r .number ≡ queryNumber (network s) bus ⌝ }
     ensures amperes { λ r. ⌜ r .amperes ≡ amperesGiven (network s) bus ⌝ }
     ensures verdict { λ r. ⌜ r .verdict ≡ verdictGiven (network s) bus ⌝ }
@@ -390,4 +364,15 @@ pub fn query(s: Study, bus: u32) -> Found
             Peak(record.peak_rating as f64),
         ),
     }
+}
+
+// The six amperes of a bus, and its verdict. Refused: 22 not closed, 15 no such bus; then the amperes are 0 and the verdict is close.
+// The last clause is demand 3 whole: for whatever calls made the study.
+pub fn query(s: Study, bus: u32) -> Found
+    ensures number { λ r. ⌜ r .number ≡ queryNumber (network s) bus ⌝ }
+    ensures amperes { λ r. ⌜ r .amperes ≡ amperesGiven (network s) bus ⌝ }
+    ensures verdict { λ r. ⌜ r .verdict ≡ verdictGiven (network s) bus ⌝ }
+    ensures promise { λ r. ⌜ Promise (network s) bus r ⌝ }
+{
+    given(s, bus)
 }
