@@ -1,3 +1,6 @@
 mod Chain
 mod Filling
 mod Lists
+mod Shape
+mod Sizes
+mod Whole

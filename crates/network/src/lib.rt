@@ -4,11 +4,15 @@ ghost use mathlib.Core.Path.{_≡_};
 ghost use mathlib.Core.Bool.{true, false};
 ghost use lib.ListN.{length};
 ghost use Rattle.network.specs.Network.{blank, blankSource, network, busAt, sourceAt};
+ghost use Rattle.network.specs.Verdict.{verdictOf};
+ghost use Rattle.network.specs.Query.{queryNumber, noAmperes, amperesGiven, verdictGiven};
 ghost use Rattle.network.specs.Grounds.{emptyOf, startNumber, startNetwork, busNumber, afterBus, sourceNumber, afterSource, closeNumber, afterClose};
 
 mod bus_grounds;
 mod checks;
 mod columns;
+mod converters;
+mod figures;
 mod records;
 mod source_grounds;
 mod walk;
@@ -16,6 +20,15 @@ mod walk;
 use bus_grounds::bus_record_number;
 use enclosure::amperes::Peak;
 use enclosure::amperes::Rms;
+use enclosure::amperes::add_peak;
+use enclosure::amperes::add_rms;
+use enclosure::amperes::exceeds_peak;
+use enclosure::amperes::exceeds_rms;
+use enclosure::amperes::excess_peak;
+use enclosure::amperes::excess_rms;
+use enclosure::amperes::peak_of;
+use enclosure::amperes::rms_of;
+use figures::amperes_at;
 use source_grounds::source_record_number;
 
 // The buses that a study has room for.
@@ -308,5 +321,73 @@ pub fn close(s: Study) -> Answer
     Answer {
         number: 0,
         study: next,
+    }
+}
+
+// A bus's six amperes against its ratings.
+pub fn verdict_of(a: Amperes, rating: Rms, peak_rating: Peak) -> Verdict
+    ensures { λ r. ⌜ r ≡ verdictOf a (rating .0) («peak_rating» .0) ⌝ }
+{
+    let lower = add_rms(a.lower, a.converters_lower);
+    let upper = add_rms(a.upper, a.converters_upper);
+    let peak = add_peak(a.peak, a.converters_peak);
+    if exceeds_peak(peak, peak_rating) {
+        return Verdict::Over(excess_peak(peak, peak_rating));
+    }
+    if exceeds_rms(lower, rating) {
+        return Verdict::Over(excess_rms(lower, rating));
+    }
+    if exceeds_rms(upper, rating) {
+        return Verdict::Close;
+    }
+    Verdict::Within(excess_rms(rating, upper))
+}
+
+// A refused query.
+fn refused(number: u32) -> Found
+    ensures number { λ r. ⌜ r .number ≡ number ⌝ }
+    ensures amperes { λ r. ⌜ r .amperes ≡ noAmperes ⌝ }
+    ensures verdict { λ r. ⌜ r .verdict ≡ Verdict.Close ⌝ }
+{
+    let none = rms_of(0);
+    let no_peak = peak_of(0);
+    let amperes = Amperes {
+        lower: none,
+        upper: none,
+        converters_lower: none,
+        converters_upper: none,
+        peak: no_peak,
+        converters_peak: no_peak,
+    };
+    Found {
+        number,
+        amperes,
+        verdict: Verdict::Close,
+    }
+}
+
+// The six amperes of a bus, and its verdict. Refused: 22 not closed, 15 no such bus; then the amperes are 0 and the verdict is close.
+pub fn query(s: Study, bus: u32) -> Found
+    ensures number { λ r. ⌜ r .number ≡ queryNumber (network s) bus ⌝ }
+    ensures amperes { λ r. ⌜ r .amperes ≡ amperesGiven (network s) bus ⌝ }
+    ensures verdict { λ r. ⌜ r .verdict ≡ verdictGiven (network s) bus ⌝ }
+{
+    if !s.closed {
+        return refused(22);
+    }
+    let b = bus as usize;
+    if bus_total(s) <= b {
+        return refused(15);
+    }
+    let record = s.buses[b];
+    let amperes = amperes_at(s, b);
+    Found {
+        number: 0,
+        amperes,
+        verdict: verdict_of(
+            amperes,
+            Rms(record.rating as f64),
+            Peak(record.peak_rating as f64),
+        ),
     }
 }

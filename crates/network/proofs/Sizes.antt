@@ -1,0 +1,20 @@
+-- Whole bounds stay at most 2 ^ 53, whatever they bound.
+use mathlib.Core.Bool.{Bool, true, false}
+use Prim.Native.Nat.{ℕ, _+_, _^_, _≤_}
+use native.Mathlib.Omega.{arith}
+use Rattle.enclosure.specs.declared.Complex.{Complex}
+use Rattle.enclosure.specs.Point.{pick}
+use Rattle.enclosure.specs.Doubles.{empty, sizeBelow, lowerOf, upperOf}
+use Rattle.enclosure.specs.Climb.{size-small}
+
+picked : (t : Bool) (n m : ℕ) → n ≤ m → pick t 0 n ≤ m
+picked true n m h = omega arith
+picked false n m h = h
+
+pub lower-most : (p q : ℕ) (z : Complex) → lowerOf p q z ≤ 2 ^ 53
+unfolding lowerOf
+lower-most p q z = picked (empty z) (sizeBelow 1073741823 p q z) (2 ^ 53) (omega (arith, size-small 1073741823 p q z))
+
+pub upper-most : (p q : ℕ) (z : Complex) → upperOf p q z ≤ 2 ^ 53
+unfolding upperOf
+upper-most p q z = picked (empty z) (sizeBelow 1073741825 p q z + 1) (2 ^ 53) (omega (arith, size-small 1073741825 p q z))

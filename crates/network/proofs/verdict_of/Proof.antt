@@ -1,0 +1,97 @@
+use mathlib.Core.Path.{_≡_, sym, _∙_}
+use mathlib.Core.Bool.{true, false}
+use lib.Ieee.{lt}
+use Rattle.network.specs.Verdict.{verdictOf}
+use borrow.Author.Needs.{needs}
+use Rattle.network.proofs.verdict_of.Statement.{statement}
+use Rattle.network.proofs.verdict_of.Tie as tie
+
+add-rms-requires : tie.Need-add-rms-requires
+add-rms-requires c κs = search needs
+
+add-rms-requires-2 : tie.Need-add-rms-requires-2
+add-rms-requires-2 c κs = search needs
+
+add-peak-requires : tie.Need-add-peak-requires
+add-peak-requires c κs = search needs
+
+exceeds-peak-requires : tie.Need-exceeds-peak-requires
+exceeds-peak-requires c κs = search needs
+
+excess-peak-requires : tie.Need-excess-peak-requires
+excess-peak-requires c κs = search needs
+
+returns : tie.Need-returns
+unfolding verdictOf
+returns c =
+    let a = c .before .before .before .before .before .before .args in
+    let p = c .before .before .before in
+    let e : lt (a .peak-rating .0) (p .add-peak .result .0) ≡ true = sym (c .before .before .exceeds-peak .ensures) ∙ c .before .if1 .taken in
+    rw (← p .add-peak .ensures, e, c .excess-peak .ensures)
+
+exceeds-rms-requires : tie.Need-exceeds-rms-requires
+exceeds-rms-requires c κs = search needs
+
+excess-rms-requires : tie.Need-excess-rms-requires
+excess-rms-requires c κs = search needs
+
+returns-2 : tie.Need-returns-2
+unfolding verdictOf
+returns-2 c =
+    let f = c .before .before .before .before in
+    let p = f .before in
+    let a = p .before .before .before .args in
+    let e : lt (a .peak-rating .0) (p .add-peak .result .0) ≡ false = sym (f .exceeds-peak .ensures) ∙ c .before .before .before .if1 .left in
+    let l = p .before .before .add-rms in
+    let g : lt (a .rating .0) (l .result .0) ≡ true = sym (c .before .before .exceeds-rms .ensures) ∙ c .before .if2 .taken in
+    rw (← p .add-peak .ensures, e, ← l .ensures, g, c .excess-rms .ensures)
+
+exceeds-rms-requires-2 : tie.Need-exceeds-rms-requires-2
+exceeds-rms-requires-2 c κs = search needs
+
+returns-3 : tie.Need-returns-3
+unfolding verdictOf
+returns-3 c =
+    let f = c .before .before .before .before .before in
+    let p = f .before in
+    let a = p .before .before .before .args in
+    let e : lt (a .peak-rating .0) (p .add-peak .result .0) ≡ false = sym (f .exceeds-peak .ensures) ∙ c .before .before .before .before .if1 .left in
+    let l = p .before .before .add-rms in
+    let u = p .before .add-rms2 in
+    let g : lt (a .rating .0) (l .result .0) ≡ false = sym (c .before .before .before .exceeds-rms .ensures) ∙ c .before .before .if2 .left in
+    let h : lt (a .rating .0) (u .result .0) ≡ true = sym (c .before .exceeds-rms2 .ensures) ∙ c .if3 .taken in
+    rw (← p .add-peak .ensures, e, ← l .ensures, g, ← u .ensures, h)
+
+excess-rms-requires-2 : tie.Need-excess-rms-requires-2
+excess-rms-requires-2 c κs = search needs
+
+returns-4 : tie.Need-returns-4
+unfolding verdictOf
+returns-4 c =
+    let f = c .before .before .before .before .before .before in
+    let p = f .before in
+    let a = p .before .before .before .args in
+    let e : lt (a .peak-rating .0) (p .add-peak .result .0) ≡ false = sym (f .exceeds-peak .ensures) ∙ c .before .before .before .before .before .if1 .left in
+    let l = p .before .before .add-rms in
+    let u = p .before .add-rms2 in
+    let g : lt (a .rating .0) (l .result .0) ≡ false = sym (c .before .before .before .before .exceeds-rms .ensures) ∙ c .before .before .before .if2 .left in
+    let h : lt (a .rating .0) (u .result .0) ≡ false = sym (c .before .before .exceeds-rms2 .ensures) ∙ c .before .if3 .left in
+    rw (← p .add-peak .ensures, e, ← l .ensures, g, ← u .ensures, h, c .excess-rms2 .ensures)
+
+pub verdict-of-spec : {M : Type 1} → statement M
+verdict-of-spec =
+    tie.close
+    (tie.spec
+    add-rms-requires
+    add-rms-requires-2
+    add-peak-requires
+    exceeds-peak-requires
+    excess-peak-requires
+    returns
+    exceeds-rms-requires
+    excess-rms-requires
+    returns-2
+    exceeds-rms-requires-2
+    returns-3
+    excess-rms-requires-2
+    returns-4)

@@ -1,0 +1,97 @@
+// What a bus gets: the six amperes from a study, and from the admittance and the current calculated at the bus.
+ghost use mathlib.Core.Path.{_≡_};
+ghost use Prim.Native.Nat.{_<_};
+ghost use lib.ListN.{length};
+ghost use Rattle.network.specs.Network.{network};
+ghost use Rattle.network.specs.Rounded.{seenAt, carriedAt, figuresBy, amperesOf, amperesAt};
+use crate::Amperes;
+use crate::Study;
+use crate::bus_total;
+use crate::columns::Entry;
+use crate::columns::branches;
+use crate::columns::column;
+use crate::columns::standing_at;
+use crate::converters::carried;
+use crate::walk::seen;
+use elements::factors::voltage_factor;
+use elements::peaks::converter_peak;
+use elements::peaks::current;
+use elements::peaks::machine_peak;
+use enclosure::Complex;
+use enclosure::amperes::peak_of;
+use enclosure::amperes::rms_of;
+use enclosure::enclose;
+
+// The branches that a walk from one bus to another can pass: up to bus 0 and down again, and one for the bus itself.
+const STEPS: usize = 37;
+
+// The admittance seen at bus b.
+fn seen_at(s: Study, b: usize) -> Complex
+    requires { ⌜ b < length (network s .buses) ⌝ }
+    ensures { λ r. ⌜ r ≡ seenAt (network s) b ⌝ }
+{
+    let parents = column(s, Entry::Parent);
+    let above = column(s, Entry::Above);
+    let below = column(s, Entry::Below);
+    let z = branches(s);
+    let own = standing_at(s, false);
+    let z_re = z.re;
+    let z_im = z.im;
+    let own_re = own.re;
+    let own_im = own.im;
+    let n = bus_total(s);
+    seen(
+        &parents,
+        &above,
+        &below,
+        &z_re,
+        &z_im,
+        &own_re,
+        &own_im,
+        n,
+        STEPS,
+        b,
+        b,
+    )
+}
+
+// The converters' part at bus b.
+fn carried_at(s: Study, b: usize) -> Complex
+    requires { ⌜ b < length (network s .buses) ⌝ }
+    ensures { λ r. ⌜ r ≡ carriedAt (network s) b ⌝ }
+{
+    let parents = column(s, Entry::Parent);
+    let above = column(s, Entry::Above);
+    let below = column(s, Entry::Below);
+    let x = standing_at(s, true);
+    let re = x.re;
+    let im = x.im;
+    let n = bus_total(s);
+    carried(&parents, &above, &below, &re, &im, n, b)
+}
+
+// The six amperes from the admittance y and the converters' current x at a bus; c is in hundredths.
+fn figures(c: u32, volts: u32, y: Complex, x: Complex) -> Amperes
+    ensures { λ r. ⌜ r ≡ amperesOf (figuresBy c volts y x) ⌝ }
+{
+    let machines = enclose(current(y, c, volts), 1, 3);
+    let converters = enclose(x, 1, 1);
+    Amperes {
+        lower: rms_of(machines.lower),
+        upper: rms_of(machines.upper),
+        converters_lower: rms_of(converters.lower),
+        converters_upper: rms_of(converters.upper),
+        peak: peak_of(machine_peak(y, c, volts)),
+        converters_peak: peak_of(converter_peak(x)),
+    }
+}
+
+// The six amperes at bus b.
+pub fn amperes_at(s: Study, b: usize) -> Amperes
+    requires { ⌜ b < length (network s .buses) ⌝ }
+    ensures { λ r. ⌜ r ≡ amperesAt (network s) b ⌝ }
+{
+    let bus = s.buses[b];
+    let c = voltage_factor(s.tolerance, bus.volts);
+    figures(c, bus.volts, seen_at(s, b), carried_at(s, b))
+}
