@@ -298,17 +298,19 @@ pub fn close(s: Study) -> Answer
     }
 }
 
-// A bus's six amperes against its ratings.
+// A bus's six amperes against its ratings. The peak is looked at first.
 pub fn verdict_of(a: Amperes, rating: Rms, peak_rating: Peak) -> Verdict
     ensures { λ r. ⌜ r ≡ verdictOf a (rating .0) («peak_rating» .0) ⌝ }
 {
     let lower = add_rms(a.lower, a.converters_lower);
     let upper = add_rms(a.upper, a.converters_upper);
     let peak = add_peak(a.peak, a.converters_peak);
-    if exceeds_peak(peak, peak_rating) {
+    let above_peak = exceeds_peak(peak, peak_rating);
+    let above_rating = exceeds_rms(lower, rating);
+    if above_peak {
         return Verdict::Over(excess_peak(peak, peak_rating));
     }
-    if exceeds_rms(lower, rating) {
+    if above_rating {
         return Verdict::Over(excess_rms(lower, rating));
     }
     if exceeds_rms(upper, rating) {

@@ -18,65 +18,66 @@ add-peak-requires c κs = search needs
 exceeds-peak-requires : tie.Need-exceeds-peak-requires
 exceeds-peak-requires c κs = search needs
 
-excess-peak-requires : tie.Need-excess-peak-requires
-excess-peak-requires c κs = search needs
-
-returns : tie.Need-returns
-unfolding verdictOf
-returns c =
-    let a = c .before .before .before .before .before .before .args in
-    let p = c .before .before .before in
-    let e : lt (a .peak-rating .0) (p .add-peak .result .0) ≡ true = sym (c .before .before .exceeds-peak .ensures) ∙ c .before .if1 .taken in
-    rw (← p .add-peak .ensures, e, c .excess-peak .ensures)
-
 exceeds-rms-requires : tie.Need-exceeds-rms-requires
 exceeds-rms-requires c κs = search needs
+
+excess-peak-requires : tie.Need-excess-peak-requires
+excess-peak-requires c κs = search needs
 
 excess-rms-requires : tie.Need-excess-rms-requires
 excess-rms-requires c κs = search needs
 
-returns-2 : tie.Need-returns-2
-unfolding verdictOf
-returns-2 c =
-    let f = c .before .before .before .before in
-    let p = f .before in
-    let a = p .before .before .before .args in
-    let e : lt (a .peak-rating .0) (p .add-peak .result .0) ≡ false = sym (f .exceeds-peak .ensures) ∙ c .before .before .before .if1 .left in
-    let l = p .before .before .add-rms in
-    let g : lt (a .rating .0) (l .result .0) ≡ true = sym (c .before .before .exceeds-rms .ensures) ∙ c .before .if2 .taken in
-    rw (← p .add-peak .ensures, e, ← l .ensures, g, c .excess-rms .ensures)
-
 exceeds-rms-requires-2 : tie.Need-exceeds-rms-requires-2
 exceeds-rms-requires-2 c κs = search needs
-
-returns-3 : tie.Need-returns-3
-unfolding verdictOf
-returns-3 c =
-    let f = c .before .before .before .before .before in
-    let p = f .before in
-    let a = p .before .before .before .args in
-    let e : lt (a .peak-rating .0) (p .add-peak .result .0) ≡ false = sym (f .exceeds-peak .ensures) ∙ c .before .before .before .before .if1 .left in
-    let l = p .before .before .add-rms in
-    let u = p .before .add-rms2 in
-    let g : lt (a .rating .0) (l .result .0) ≡ false = sym (c .before .before .before .exceeds-rms .ensures) ∙ c .before .before .if2 .left in
-    let h : lt (a .rating .0) (u .result .0) ≡ true = sym (c .before .exceeds-rms2 .ensures) ∙ c .if3 .taken in
-    rw (← p .add-peak .ensures, e, ← l .ensures, g, ← u .ensures, h)
 
 excess-rms-requires-2 : tie.Need-excess-rms-requires-2
 excess-rms-requires-2 c κs = search needs
 
+-- the peak, and the lower sum, do not exceed their ratings
+peak-within : (t : tie.After-exceeds-rms) → t .before .exceeds-peak .result ≡ false
+    → lt (t .before .before .before .before .before .args .peak-rating .0) (t .before .before .add-peak .result .0) ≡ false
+peak-within t e = sym (t .before .exceeds-peak .ensures) ∙ e
+
+lower-within : (t : tie.After-exceeds-rms) → t .exceeds-rms .result ≡ false
+    → lt (t .before .before .before .before .before .args .rating .0) (t .before .before .before .before .add-rms .result .0) ≡ false
+lower-within t e = sym (t .exceeds-rms .ensures) ∙ e
+
+returns : tie.Need-returns
+unfolding verdictOf
+returns c =
+    let t = c .before .before in
+    let p = t .before .before .add-peak in
+    let e : lt (t .before .before .before .before .before .args .peak-rating .0) (p .result .0) ≡ true = sym (t .before .exceeds-peak .ensures) ∙ c .before .if1 .taken in
+    rw (← p .ensures, e, c .excess-peak .ensures)
+
+returns-2 : tie.Need-returns-2
+unfolding verdictOf
+returns-2 c =
+    let t = c .before .before .before in
+    let e = peak-within t (c .before .before .if1 .left) in
+    let l = t .before .before .before .before .add-rms in
+    let g : lt (t .before .before .before .before .before .args .rating .0) (l .result .0) ≡ true = sym (t .exceeds-rms .ensures) ∙ c .before .if2 .taken in
+    rw (← t .before .before .add-peak .ensures, e, ← l .ensures, g, c .excess-rms .ensures)
+
+returns-3 : tie.Need-returns-3
+unfolding verdictOf
+returns-3 c =
+    let t = c .before .before .before .before in
+    let e = peak-within t (c .before .before .before .if1 .left) in
+    let g = lower-within t (c .before .before .if2 .left) in
+    let u = t .before .before .before .add-rms2 in
+    let h : lt (t .before .before .before .before .before .args .rating .0) (u .result .0) ≡ true = sym (c .before .exceeds-rms2 .ensures) ∙ c .if3 .taken in
+    rw (← t .before .before .add-peak .ensures, e, ← t .before .before .before .before .add-rms .ensures, g, ← u .ensures, h)
+
 returns-4 : tie.Need-returns-4
 unfolding verdictOf
 returns-4 c =
-    let f = c .before .before .before .before .before .before in
-    let p = f .before in
-    let a = p .before .before .before .args in
-    let e : lt (a .peak-rating .0) (p .add-peak .result .0) ≡ false = sym (f .exceeds-peak .ensures) ∙ c .before .before .before .before .before .if1 .left in
-    let l = p .before .before .add-rms in
-    let u = p .before .add-rms2 in
-    let g : lt (a .rating .0) (l .result .0) ≡ false = sym (c .before .before .before .before .exceeds-rms .ensures) ∙ c .before .before .before .if2 .left in
-    let h : lt (a .rating .0) (u .result .0) ≡ false = sym (c .before .before .exceeds-rms2 .ensures) ∙ c .before .if3 .left in
-    rw (← p .add-peak .ensures, e, ← l .ensures, g, ← u .ensures, h, c .excess-rms2 .ensures)
+    let t = c .before .before .before .before .before in
+    let e = peak-within t (c .before .before .before .before .if1 .left) in
+    let g = lower-within t (c .before .before .before .if2 .left) in
+    let u = t .before .before .before .add-rms2 in
+    let h : lt (t .before .before .before .before .before .args .rating .0) (u .result .0) ≡ false = sym (c .before .before .exceeds-rms2 .ensures) ∙ c .before .if3 .left in
+    rw (← t .before .before .add-peak .ensures, e, ← t .before .before .before .before .add-rms .ensures, g, ← u .ensures, h, c .excess-rms2 .ensures)
 
 pub verdict-of-spec : {M : Type 1} → statement M
 verdict-of-spec =
@@ -86,9 +87,9 @@ verdict-of-spec =
     add-rms-requires-2
     add-peak-requires
     exceeds-peak-requires
+    exceeds-rms-requires
     excess-peak-requires
     returns
-    exceeds-rms-requires
     excess-rms-requires
     returns-2
     exceeds-rms-requires-2

@@ -1,3 +1,4 @@
+use native.Mathlib.Omega.{arith}
 use mathlib.Core.Path.{_≡_, ap, _∙_}
 use Rattle.enclosure.specs.declared.Bounds.{Bounds}
 use Rattle.enclosure.specs.Doubles.{boundsOf}
@@ -7,6 +8,12 @@ use Rattle.network.proofs.Whole.{rms-whole, peak-whole}
 use borrow.Author.Needs.{needs}
 use Rattle.network.proofs.figures.figures.Statement.{statement}
 use Rattle.network.proofs.figures.figures.Tie as tie
+
+lowers : {b d : Bounds} → b ≡ d → b .lower ≡ d .lower
+lowers e = ap (λ (b : Bounds). b .lower) e
+
+uppers : {b d : Bounds} → b ≡ d → b .upper ≡ d .upper
+uppers e = ap (λ (b : Bounds). b .upper) e
 
 current-requires : tie.Need-current-requires
 current-requires c κs = search needs
@@ -18,16 +25,19 @@ enclose-requires-2 : tie.Need-enclose-requires-2
 enclose-requires-2 c κs = search needs
 
 rms-of-requires : tie.Need-rms-of-requires
-rms-of-requires c κs = rw (c .before .enclose .ensures) (lower-most 1 3 _)
+rms-of-requires c κs = omega (arith, lowers (c .before .enclose .ensures), lower-most 1 3 (c .before .before .current .result))
 
 rms-of-requires-2 : tie.Need-rms-of-requires-2
-rms-of-requires-2 c κs = rw (c .before .before .enclose .ensures) (upper-most 1 3 _)
+rms-of-requires-2 c κs =
+    omega (arith, uppers (c .before .before .enclose .ensures), upper-most 1 3 (c .before .before .before .current .result))
 
 rms-of-requires-3 : tie.Need-rms-of-requires-3
-rms-of-requires-3 c κs = rw (c .before .before .enclose2 .ensures) (lower-most 1 1 _)
+rms-of-requires-3 c κs =
+    omega (arith, lowers (c .before .before .enclose2 .ensures), lower-most 1 1 (c .before .before .before .before .before .args .x))
 
 rms-of-requires-4 : tie.Need-rms-of-requires-4
-rms-of-requires-4 c κs = rw (c .before .before .before .enclose2 .ensures) (upper-most 1 1 _)
+rms-of-requires-4 c κs =
+    omega (arith, uppers (c .before .before .before .enclose2 .ensures), upper-most 1 1 (c .before .before .before .before .before .before .args .x))
 
 machine-peak-requires : tie.Need-machine-peak-requires
 machine-peak-requires c κs = search needs
@@ -42,12 +52,6 @@ converter-peak-requires c κs = search needs
 peak-of-requires-2 : tie.Need-peak-of-requires-2
 unfolding converterPeakBy
 peak-of-requires-2 c κs = rw (c .converter-peak .ensures) (upper-most 2 1 _)
-
-lowers : {b d : Bounds} → b ≡ d → b .lower ≡ d .lower
-lowers e = ap (λ (b : Bounds). b .lower) e
-
-uppers : {b d : Bounds} → b ≡ d → b .upper ≡ d .upper
-uppers e = ap (λ (b : Bounds). b .upper) e
 
 returns : tie.Need-returns
 returns c =
