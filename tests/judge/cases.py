@@ -17,6 +17,9 @@ from networks import without_converters, write_file
 from refusals import near_misses
 from texts import greatest_numbers, meant_texts, spoil, truncations
 
+# The console takes lines of at most so many bytes; a longer text goes to the program alone.
+LINE_BYTES = 140_000
+
 
 class Case(NamedTuple):
     """`text` is the file of a case about one file; `ending` stands before each LF."""
@@ -108,7 +111,9 @@ def fixed_units():
     units = [Unit(lists)]
     units.append(Unit([Case("calls: at_once", at_once())], alone=True))
     for i, part in enumerate(chunks(texts, 100)):
-        units.append(Unit([file_case(*text) for text in part], [], part[i % 8 :: 8]))
+        short = [text for text in part if len(line_of(("read", text[1]))) <= LINE_BYTES]
+        long = [text for text in part if text not in short]
+        units.append(Unit([file_case(*text) for text in short], [], short[i % 8 :: 8] + long))
     plans = []
     for i, (name, draft) in enumerate(fixed_networks()):
         small = len(draft.buses) <= 3 and not name.startswith("feeder")
