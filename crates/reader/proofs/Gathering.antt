@@ -1,18 +1,17 @@
 -- The numbers of a row, gathered field by field: what holds at each place where a field begins, and what that gives at the end.
-use mathlib.Core.Path.{_≡_, refl, ap, sym, _∙_}
-use mathlib.Core.Bool.{Bool, true, false, _&&_}
+use mathlib.Core.Path.{_≡_, ap, sym, _∙_}
+use mathlib.Core.Bool.{true, false}
 use mathlib.Core.List.{List, [], _∷_, _++_, append-assoc, append-nil}
-use Prim.Native.Nat.{ℕ, suc, _+_, _≤_, _<_}
+use Prim.Native.Nat.{ℕ, _+_, _≤_, _<_}
 use native.Mathlib.Omega.{arith}
 use native.Mathlib.Numerals.{add-one}
 use borrow.Author.Tests.{le-leb, lt-leb}
-use lib.Dec.{leb, leb·zero}
+use lib.Dec.{leb·zero}
 use lib.ListN.{length, take, drop, set, length-set, length-drop}
 use lib.Seq.{take-suc-set}
 use Rattle.network.specs.Tests.{by-test, never}
 use Rattle.reader.specs.declared.Number.the-variants.{Value, Broken}
-use Rattle.reader.specs.declared.Numbers.{Numbers}
-use Rattle.reader.specs.File.{fields, numberOf, isNumber, amount, allNumbers, amounts}
+use Rattle.reader.specs.File.{fields, numberOf, allNumbers, amounts}
 use Rattle.reader.specs.Stretches.{atComma, stretch, before-le, fieldsFrom, from-step, length-stretch}
 use Rattle.reader.specs.Gathered.{Gathered}
 

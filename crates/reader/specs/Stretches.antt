@@ -1,5 +1,5 @@
 -- The stretch of bytes up to a place that a test finds: a row up to its CRLF, a field up to its comma. What comes after it.
-use mathlib.Core.Path.{_≡_, refl, ap, sym, _∙_}
+use mathlib.Core.Path.{_≡_, refl}
 use mathlib.Core.Bool.{Bool, true, false, cond, _&&_}
 use mathlib.Core.List.{List, [], _∷_}
 use Prim.Native.Nat.{ℕ, suc, _+_, _-_, _≤_, _<_}
@@ -8,10 +8,10 @@ use native.Mathlib.Numerals.{add-one}
 use native.Mathlib.Nat.{suc-add, add-assoc}
 use borrow.Author.Tests.{leb-true, leb-false, le-leb, lt-leb}
 use lib.Dec.{leb, eqb, leb·zero, leb·suc-suc}
-use lib.ListN.{length, take, drop, getD, drop-of-length-le, length-drop}
+use lib.ListN.{length, take, drop, drop-of-length-le, length-drop}
 use lib.Seq.{drop-cons, drop-drop, length-take-le}
 use Rattle.network.specs.Tests.{by-test}
-use Rattle.reader.specs.File.{rows, fields, onFirst}
+use Rattle.reader.specs.File.{rows, fields}
 
 -- whether the bytes begin with CRLF, and whether with a comma
 abbrev pub atCrlf : List ℕ → Bool

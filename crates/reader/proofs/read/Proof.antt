@@ -1,10 +1,10 @@
 use mathlib.Core.Path.{_≡_, refl, ap, _∙_}
+use borrow.Author.Needs.{needs}
 use lib.ListN.{length}
 use Rattle.network.specs.Network.{network}
 use Rattle.network.specs.Tests.{within-true}
 use Rattle.reader.specs.declared.Reading.{Reading}
 use Rattle.reader.specs.File.{Outcome, outcomeOf, readOf}
-use borrow.Author.Needs.{needs}
 use Rattle.reader.proofs.read.Statement.{statement}
 use Rattle.reader.proofs.read.Tie as tie
 

@@ -1,9 +1,8 @@
-use mathlib.Core.Path.{_≡_, refl, sym, _∙_}
-use mathlib.Core.Path.{ap}
+use mathlib.Core.Path.{_≡_, sym, _∙_, ap}
+use borrow.Author.Needs.{needs}
 use lib.ListN.{length}
 use Rattle.reader.specs.declared.Row.the-variants.{WithBus, WithSource}
 use Rattle.reader.proofs.Records.{start-row, no-start-row, bus-row, source-row, no-record-row}
-use borrow.Author.Needs.{needs}
 use Rattle.reader.proofs.rows.record_of.Statement.{statement}
 use Rattle.reader.proofs.rows.record_of.Tie as tie
 
