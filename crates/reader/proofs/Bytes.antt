@@ -1,18 +1,17 @@
 -- What the byte at a place says of the bytes from there on: of a line end, a comma, a digit.
-use mathlib.Core.Path.{_≡_, refl, sym, _∙_}
-use mathlib.Core.Bool.{Bool, true, false, _&&_}
+use mathlib.Core.Path.{_≡_}
+use mathlib.Core.Bool.{true, false, _&&_}
 use mathlib.Core.List.{List, [], _∷_}
 use Prim.Native.Nat.{ℕ, suc, _+_, _*_, _-_, _^_, _≤_, _<_}
 use native.Mathlib.Omega.{arith}
 use native.Mathlib.Numerals.{add-one}
 use borrow.Author.Tests.{lt-ltb, le-ltb, le-leb, lt-leb}
-use lib.Dec.{leb, ltb, eqb}
+use lib.Dec.{eqb}
 use lib.ListN.{length, drop, getD, drop-of-length-le}
 use lib.Seq.{drop-cons}
-use Rattle.network.specs.Records.{within}
 use Rattle.network.specs.Tests.{by-test}
 use Rattle.reader.specs.declared.Number.the-variants.{Value, Broken}
-use Rattle.reader.specs.File.{digits, decimal, valueOf}
+use Rattle.reader.specs.File.{cr, lf, comma, digit0, digit9, digits, decimal, valueOf}
 use Rattle.reader.specs.Stretches.{atCrlf, atComma}
 
 module _ (l : List ℕ) (i : ℕ) (h : i < length l) where
@@ -21,31 +20,31 @@ module _ (l : List ℕ) (i : ℕ) (h : i < length l) where
       let k : length l ≤ suc i = omega arith in
       rw (drop-cons l i 0 h, drop-of-length-le l k)
 
-  pub crlf-next : i + 1 < length l → atCrlf (drop i l) ≡ (eqb (getD l i 0) 13 && eqb (getD l (i + 1) 0) 10)
+  pub crlf-next : i + 1 < length l → atCrlf (drop i l) ≡ (eqb (getD l i 0) cr && eqb (getD l (i + 1) 0) lf)
   crlf-next e =
       let k : suc i < length l = omega arith in
       rw (drop-cons l i 0 h, drop-cons l (suc i) 0 k, add-one i)
 
-  pub comma-here : atComma (drop i l) ≡ eqb (getD l i 0) 44
+  pub comma-here : atComma (drop i l) ≡ eqb (getD l i 0) comma
   comma-here = rw (drop-cons l i 0 h)
 
   -- a byte that is no digit
-  pub digits-low : getD l i 0 < 48 → digits (drop i l) ≡ false
-  digits-low e = rw (drop-cons l i 0 h, lt-leb 48 (getD l i 0) e)
+  pub digits-low : getD l i 0 < digit0 → digits (drop i l) ≡ false
+  digits-low e = rw (drop-cons l i 0 h, lt-leb digit0 (getD l i 0) e)
 
-  pub digits-high : 57 < getD l i 0 → digits (drop i l) ≡ false
-  digits-high e = rw (drop-cons l i 0 h, le-leb 48 (getD l i 0) (omega arith), lt-leb (getD l i 0) 57 e)
+  pub digits-high : digit9 < getD l i 0 → digits (drop i l) ≡ false
+  digits-high e = rw (drop-cons l i 0 h, le-leb digit0 (getD l i 0) (omega arith), lt-leb (getD l i 0) digit9 e)
 
-  pub digits-more : 48 ≤ getD l i 0 → getD l i 0 ≤ 57 → digits (drop i l) ≡ digits (drop (i + 1) l)
-  digits-more p q = rw (add-one i, drop-cons l i 0 h, le-leb 48 (getD l i 0) p, le-leb (getD l i 0) 57 q)
+  pub digits-more : digit0 ≤ getD l i 0 → getD l i 0 ≤ digit9 → digits (drop i l) ≡ digits (drop (i + 1) l)
+  digits-more p q = rw (add-one i, drop-cons l i 0 h, le-leb digit0 (getD l i 0) p, le-leb (getD l i 0) digit9 q)
 
-  pub decimal-more : (n : ℕ) → decimal n (drop i l) ≡ decimal (10 * n + (getD l i 0 - 48)) (drop (i + 1) l)
+  pub decimal-more : (n : ℕ) → decimal n (drop i l) ≡ decimal (10 * n + (getD l i 0 - digit0)) (drop (i + 1) l)
   decimal-more n = rw (add-one i, drop-cons l i 0 h)
 
 -- further digits do not lower a number
 pub decimal-least : (n : ℕ) (l : List ℕ) → n ≤ decimal n l
 decimal-least n [] = omega arith
-decimal-least n (b ∷ bs) = omega (arith, decimal-least (10 * n + (b - 48)) bs)
+decimal-least n (b ∷ bs) = omega (arith, decimal-least (10 * n + (b - digit0)) bs)
 
 -- the three outcomes of reading digits
 pub value-other : (f : List ℕ) → digits f ≡ false → valueOf f ≡ Broken

@@ -8,14 +8,14 @@ use borrow.Author.Tests.{eq-eqb, ne-eqb, eqb-true, leb-false}
 use lib.Dec.{leb, eqb}
 use lib.ListN.{length, take, drop, getD}
 use lib.Seq.{length-take-le, take-all, getD-take}
-use Rattle.network.specs.Tests.{by-test, never, both-true}
+use Rattle.network.specs.Tests.{by-test, both-true}
 use Rattle.reader.specs.declared.Numbers.{Numbers}
 use Rattle.reader.specs.declared.Row.the-variants.{Start, WithBus, WithSource, Malformed}
-use Rattle.reader.specs.File.{fields, allNumbers, amounts, busOf, sourceOf, recordOf, fieldsRow, rowOf}
+use Rattle.reader.specs.File.{busFields, sourceFields, comma, letterS, letterB, letterP, fields, allNumbers, amounts, busOf, sourceOf, recordOf, fieldsRow, rowOf}
 use Rattle.reader.specs.Gathered.{Gathered}
 
--- ---- a letter and the first numbers of an array of ten
-same-source : (n : ℕ) (v : List ℕ) → 7 ≤ n → sourceOf (take n v) ≡ sourceOf v
+-- ---- a letter and the first numbers of an array
+same-source : (n : ℕ) (v : List ℕ) → sourceFields ≤ n → sourceOf (take n v) ≡ sourceOf v
 same-source n v h =
     rw (
       getD-take n v 0 0 (omega arith),
@@ -27,33 +27,33 @@ same-source n v h =
       getD-take n v 6 0 (omega arith),
     )
 
-module _ (letter count : ℕ) (v : List ℕ) (few : count ≤ 10) (whole : length v ≡ 10) where
+module _ (letter count : ℕ) (v : List ℕ) (few : count ≤ busFields) (whole : length v ≡ busFields) where
   counted : length (take count v) ≡ count
   counted = length-take-le count v (omega arith)
 
-  pub start-row : (eqb letter 83 && eqb count 1) ≡ true → recordOf true letter (take count v) ≡ Start (getD v 0 0)
+  pub start-row : (eqb letter letterS && eqb count 1) ≡ true → recordOf true letter (take count v) ≡ Start (getD v 0 0)
   unfolding recordOf
   start-row e =
       rw (counted, e)
-      (ap Start (getD-take count v 0 0 (omega (arith, eqb-true count 1 (both-true (eqb letter 83) (eqb count 1) e .1)))))
+      (ap Start (getD-take count v 0 0 (omega (arith, eqb-true count 1 (both-true (eqb letter letterS) (eqb count 1) e .1)))))
 
-  pub no-start-row : (eqb letter 83 && eqb count 1) ≡ false → recordOf true letter (take count v) ≡ Malformed
+  pub no-start-row : (eqb letter letterS && eqb count 1) ≡ false → recordOf true letter (take count v) ≡ Malformed
   unfolding recordOf
   no-start-row e = rw (counted, e)
 
-  pub bus-row : (eqb letter 66 && eqb count 10) ≡ true → recordOf false letter (take count v) ≡ WithBus (busOf v)
+  pub bus-row : (eqb letter letterB && eqb count busFields) ≡ true → recordOf false letter (take count v) ≡ WithBus (busOf v)
   unfolding recordOf
   bus-row e =
       rw (counted, e)
-      (ap (λ (l : List ℕ). WithBus (busOf l)) (take-all count v (omega (arith, eqb-true count 10 (both-true (eqb letter 66) (eqb count 10) e .1)))))
+      (ap (λ (l : List ℕ). WithBus (busOf l)) (take-all count v (omega (arith, eqb-true count busFields (both-true (eqb letter letterB) (eqb count busFields) e .1)))))
 
-  pub source-row : (eqb letter 66 && eqb count 10) ≡ false → (eqb letter 80 && eqb count 7) ≡ true → recordOf false letter (take count v) ≡ WithSource (sourceOf v)
+  pub source-row : (eqb letter letterB && eqb count busFields) ≡ false → (eqb letter letterP && eqb count sourceFields) ≡ true → recordOf false letter (take count v) ≡ WithSource (sourceOf v)
   unfolding recordOf
   source-row b e =
       rw (counted, b, e)
-      (ap WithSource (same-source count v (omega (arith, eqb-true count 7 (both-true (eqb letter 80) (eqb count 7) e .1)))))
+      (ap WithSource (same-source count v (omega (arith, eqb-true count sourceFields (both-true (eqb letter letterP) (eqb count sourceFields) e .1)))))
 
-  pub no-record-row : (eqb letter 66 && eqb count 10) ≡ false → (eqb letter 80 && eqb count 7) ≡ false → recordOf false letter (take count v) ≡ Malformed
+  pub no-record-row : (eqb letter letterB && eqb count busFields) ≡ false → (eqb letter letterP && eqb count sourceFields) ≡ false → recordOf false letter (take count v) ≡ Malformed
   unfolding recordOf
   no-record-row b e = rw (counted, b, e)
 
@@ -66,21 +66,21 @@ last-false : (a : Bool) {b : Bool} → b ≡ false → (a && b) ≡ false
 last-false true e = e
 last-false false e = refl
 
--- more than ten numbers are no record
-too-many : (first : Bool) (letter : ℕ) (v : List ℕ) → 10 < length v → recordOf first letter v ≡ Malformed
+-- more numbers than a bus has are no record
+too-many : (first : Bool) (letter : ℕ) (v : List ℕ) → busFields < length v → recordOf first letter v ≡ Malformed
 unfolding recordOf
-too-many true letter v h = rw (last-false (eqb letter 83) (ne-eqb (length v) 1 (λ e. omega arith)))
+too-many true letter v h = rw (last-false (eqb letter letterS) (ne-eqb (length v) 1 (λ e. omega arith)))
 too-many false letter v h =
     rw (
-      last-false (eqb letter 66) (ne-eqb (length v) 10 (λ e. omega arith)),
-      last-false (eqb letter 80) (ne-eqb (length v) 7 (λ e. omega arith)),
+      last-false (eqb letter letterB) (ne-eqb (length v) busFields (λ e. omega arith)),
+      last-false (eqb letter letterP) (ne-eqb (length v) sourceFields (λ e. omega arith)),
     )
 
 module _ (first : Bool) (letter : ℕ) (fs : List (List ℕ)) (r : Numbers) (g : Gathered fs r) where
   pub fields-taken : r .ok ≡ true → fieldsRow first letter fs ≡ recordOf first letter (take (r .count) (r .values))
   unfolding fieldsRow
   fields-taken e =
-      let h = both-true (allNumbers fs) (leb (length fs) 10) (sym (g .tested) ∙ e) in
+      let h = both-true (allNumbers fs) (leb (length fs) busFields) (sym (g .tested) ∙ e) in
       rw (h .0, g .same e)
 
   pub fields-broken : r .ok ≡ false → fieldsRow first letter fs ≡ Malformed
@@ -88,8 +88,8 @@ module _ (first : Bool) (letter : ℕ) (fs : List (List ℕ)) (r : Numbers) (g :
   fields-broken e =
       by-test (allNumbers fs)
       (λ t.
-      let k : r .ok ≡ leb (length fs) 10 = rw t at (g .tested) in
-      rw t (too-many first letter (amounts fs) (omega (arith, leb-false (length fs) 10 (sym k ∙ e), length-amounts fs))))
+      let k : r .ok ≡ leb (length fs) busFields = rw t at (g .tested) in
+      rw t (too-many first letter (amounts fs) (omega (arith, leb-false (length fs) busFields (sym k ∙ e), length-amounts fs))))
       (λ t. rw t)
 
 -- ---- the bytes of a row
@@ -99,14 +99,14 @@ row-short first [] h = refl
 row-short first (a ∷ []) h = refl
 row-short first (a ∷ b ∷ l) h = absurd (omega arith)
 
-pub row-other : (first : Bool) (l : List ℕ) → (getD l 1 0 ≡ 44 → ⊥) → rowOf first l ≡ Malformed
+pub row-other : (first : Bool) (l : List ℕ) → (getD l 1 0 ≡ comma → ⊥) → rowOf first l ≡ Malformed
 unfolding rowOf
 row-other first [] h = refl
 row-other first (a ∷ []) h = refl
-row-other first (a ∷ b ∷ l) h = rw (ne-eqb b 44 h)
+row-other first (a ∷ b ∷ l) h = rw (ne-eqb b comma h)
 
-pub row-fields : (first : Bool) (l : List ℕ) → 2 ≤ length l → getD l 1 0 ≡ 44 → rowOf first l ≡ fieldsRow first (getD l 0 0) (fields (drop 2 l))
+pub row-fields : (first : Bool) (l : List ℕ) → 2 ≤ length l → getD l 1 0 ≡ comma → rowOf first l ≡ fieldsRow first (getD l 0 0) (fields (drop 2 l))
 unfolding rowOf
 row-fields first [] h e = absurd (omega arith)
 row-fields first (a ∷ []) h e = absurd (omega arith)
-row-fields first (a ∷ b ∷ l) h e = rw (eq-eqb b 44 e)
+row-fields first (a ∷ b ∷ l) h e = rw (eq-eqb b comma e)

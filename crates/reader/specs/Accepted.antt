@@ -1,9 +1,9 @@
 -- What reading a text leaves, as calls on a study: so whatever is proved of lists of calls holds of texts.
-use mathlib.Core.Path.{_≡_, refl, ap, sym, _∙_}
-use mathlib.Core.Bool.{Bool, true, false}
+use mathlib.Core.Path.{_≡_, refl, ap, _∙_}
+use mathlib.Core.Bool.{true}
 use mathlib.Core.List.{List, [], _∷_, _++_}
 use Prim.Native.Nat.{ℕ, _+_}
-use borrow.Author.Tests.{eqb-true, eqb-false}
+use borrow.Author.Tests.{eqb-false}
 use lib.Dec.{eqb}
 use lib.ListN.{length}
 use Rattle.network.specs.Records.{within}
@@ -13,7 +13,7 @@ use Rattle.network.specs.Calls.{Call, starting, addingBus, addingSource, closin
 use Rattle.network.specs.Tests.{by-test}
 use Rattle.reader.specs.declared.Row.{Row}
 use Rattle.reader.specs.declared.Row.the-variants.{Start, WithBus, WithSource, Malformed}
-use Rattle.reader.specs.File.{rows, rowOf, rowNumber, afterRow, Outcome, closeAfter, readFrom, readOf}
+use Rattle.reader.specs.File.{maxBytes, rows, rowOf, rowNumber, afterRow, Outcome, closeAfter, readFrom, readOf}
 
 -- "an accepted file counts as a start, additions and a closing by its rows"
 abbrev pub callOf : Row → List Call
@@ -62,7 +62,7 @@ module _ (text : List ℕ) (e : readOf text .number ≡ 0) where
   good : Good (readOf text) (run (calls text))
   unfolding readOf run
   good =
-      by-test (within (length text) 1 65536)
+      by-test (within (length text) 1 maxBytes)
       (λ t. rw t (from-good 0 emptyNetwork (rows text) (rw t at e)))
       (λ t. absurd (let z : _≡_ {A = ℕ} 16 0 = rw t at e in eqb-false 16 0 refl z))
 
@@ -93,6 +93,6 @@ from-refused i n (r ∷ rs) h =
 pub refused-run : (text : List ℕ) → (readOf text .number ≡ 0 → ⊥) → readOf text .network ≡ run (starting 6 ∷ [])
 unfolding readOf run
 refused-run text h =
-    by-test (within (length text) 1 65536)
+    by-test (within (length text) 1 maxBytes)
     (λ t. rw t (from-refused 0 emptyNetwork (rows text) (rw t at h)))
     (λ t. rw t)

@@ -17,6 +17,42 @@ use Rattle.reader.specs.declared.Reading.{Reading}
 use Rattle.reader.specs.declared.Row.{Row}
 use Rattle.reader.specs.declared.Row.the-variants.{Start, WithBus, WithSource, Malformed}
 
+-- ---- the figures of the file's form
+-- "up to 65,536 bytes"; "`B,` with ten fields or `P,` with seven"
+abbrev pub maxBytes : ℕ
+maxBytes = 65536
+
+abbrev pub busFields : ℕ
+busFields = 10
+
+abbrev pub sourceFields : ℕ
+sourceFields = 7
+
+-- the bytes CR, LF, comma, 0, 9, S, B and P
+abbrev pub cr : ℕ
+cr = 13
+
+abbrev pub lf : ℕ
+lf = 10
+
+abbrev pub comma : ℕ
+comma = 44
+
+abbrev pub digit0 : ℕ
+digit0 = 48
+
+abbrev pub digit9 : ℕ
+digit9 = 57
+
+abbrev pub letterS : ℕ
+letterS = 83
+
+abbrev pub letterB : ℕ
+letterB = 66
+
+abbrev pub letterP : ℕ
+letterP = 80
+
 -- ---- rows and fields
 -- a byte put before the first of the stretches that follow it
 abbrev pub onFirst : ℕ → List (List ℕ) → List (List ℕ)
@@ -27,26 +63,26 @@ onFirst b (r ∷ rs) = (b ∷ r) ∷ rs
 abbrev pub rows : List ℕ → List (List ℕ)
 rows [] = []
 rows (b ∷ []) = (b ∷ []) ∷ []
-rows (b ∷ c ∷ bs) = cond (eqb b 13 && eqb c 10) ([] ∷ rows bs) (onFirst b (rows (c ∷ bs)))
+rows (b ∷ c ∷ bs) = cond (eqb b cr && eqb c lf) ([] ∷ rows bs) (onFirst b (rows (c ∷ bs)))
 
 -- "A field is taken as the stretch of the file's own bytes between its commas."
 abbrev pub fields : List ℕ → List (List ℕ)
 fields [] = [] ∷ []
-fields (b ∷ bs) = cond (eqb b 44) ([] ∷ fields bs) (onFirst b (fields bs))
+fields (b ∷ bs) = cond (eqb b comma) ([] ∷ fields bs) (onFirst b (fields bs))
 
 -- ---- numbers
 -- "A number is 1 to 10 digits, no leading zero save 0 itself, below 2³².": the length and the first digit
 unfoldable pub lengthOk : List ℕ → Bool
-lengthOk f = within (length f) 1 10 && (eqb (length f) 1 || not (eqb (getD f 0 0) 48))
+lengthOk f = within (length f) 1 10 && (eqb (length f) 1 || not (eqb (getD f 0 0) digit0))
 
 abbrev pub digits : List ℕ → Bool
 digits [] = true
-digits (b ∷ bs) = within b 48 57 && digits bs
+digits (b ∷ bs) = within b digit0 digit9 && digits bs
 
 -- the number that digits make after those of n
 abbrev pub decimal : ℕ → List ℕ → ℕ
 decimal n [] = n
-decimal n (b ∷ bs) = decimal (10 * n + (b - 48)) bs
+decimal n (b ∷ bs) = decimal (10 * n + (b - digit0)) bs
 
 unfoldable pub valueOf : List ℕ → Number
 valueOf f = cond (digits f && ltb (decimal 0 f) (2 ^ 32)) (Value (decimal 0 f)) Broken
@@ -103,10 +139,10 @@ sourceOf v = record {
 -- "Row 1 is `S,tolerance`; then `B,` with ten fields or `P,` with seven, in any mixture.": by whether the row is the first, its
 -- letter and its numbers
 unfoldable pub recordOf : Bool → ℕ → List ℕ → Row
-recordOf true letter v = cond (eqb letter 83 && eqb (length v) 1) (Start (getD v 0 0)) Malformed
+recordOf true letter v = cond (eqb letter letterS && eqb (length v) 1) (Start (getD v 0 0)) Malformed
 recordOf false letter v =
-    cond (eqb letter 66 && eqb (length v) 10) (WithBus (busOf v))
-    (cond (eqb letter 80 && eqb (length v) 7) (WithSource (sourceOf v)) Malformed)
+    cond (eqb letter letterB && eqb (length v) busFields) (WithBus (busOf v))
+    (cond (eqb letter letterP && eqb (length v) sourceFields) (WithSource (sourceOf v)) Malformed)
 
 unfoldable pub fieldsRow : Bool → ℕ → List (List ℕ) → Row
 fieldsRow first letter fs = cond (allNumbers fs) (recordOf first letter (amounts fs)) Malformed
@@ -115,7 +151,7 @@ fieldsRow first letter fs = cond (allNumbers fs) (recordOf first letter (amounts
 unfoldable pub rowOf : Bool → List ℕ → Row
 rowOf first [] = Malformed
 rowOf first (letter ∷ []) = Malformed
-rowOf first (letter ∷ comma ∷ rest) = cond (eqb comma 44) (fieldsRow first letter (fields rest)) Malformed
+rowOf first (letter ∷ b ∷ rest) = cond (eqb b comma) (fieldsRow first letter (fields rest)) Malformed
 
 -- ---- the four cases of `Row`: the number that a row is refused with, 0 where it is accepted, and the network after it
 -- "16 text breaks the file form: given for that row before its record is tried"
@@ -162,4 +198,4 @@ readFrom i n (r ∷ rs) =
 
 -- "up to 65,536 bytes"; "for empty or overlong text, row 1"
 unfoldable pub readOf : List ℕ → Outcome
-readOf text = cond (within (length text) 1 65536) (readFrom 0 emptyNetwork (rows text)) (refusedAt 16 1)
+readOf text = cond (within (length text) 1 maxBytes) (readFrom 0 emptyNetwork (rows text)) (refusedAt 16 1)

@@ -1,5 +1,5 @@
 -- The stretch of bytes up to a place that a test finds: a row up to its CRLF, a field up to its comma. What comes after it.
-use mathlib.Core.Path.{_≡_, refl, ap, sym, _∙_}
+use mathlib.Core.Path.{_≡_, refl}
 use mathlib.Core.Bool.{Bool, true, false, cond, _&&_}
 use mathlib.Core.List.{List, [], _∷_}
 use Prim.Native.Nat.{ℕ, suc, _+_, _-_, _≤_, _<_}
@@ -8,20 +8,20 @@ use native.Mathlib.Numerals.{add-one}
 use native.Mathlib.Nat.{suc-add, add-assoc}
 use borrow.Author.Tests.{leb-true, leb-false, le-leb, lt-leb}
 use lib.Dec.{leb, eqb, leb·zero, leb·suc-suc}
-use lib.ListN.{length, take, drop, getD, drop-of-length-le, length-drop}
+use lib.ListN.{length, take, drop, drop-of-length-le, length-drop}
 use lib.Seq.{drop-cons, drop-drop, length-take-le}
 use Rattle.network.specs.Tests.{by-test}
-use Rattle.reader.specs.File.{rows, fields, onFirst}
+use Rattle.reader.specs.File.{cr, lf, comma, rows, fields}
 
 -- whether the bytes begin with CRLF, and whether with a comma
 abbrev pub atCrlf : List ℕ → Bool
 atCrlf [] = false
 atCrlf (b ∷ []) = false
-atCrlf (b ∷ c ∷ bs) = eqb b 13 && eqb c 10
+atCrlf (b ∷ c ∷ bs) = eqb b cr && eqb c lf
 
 abbrev pub atComma : List ℕ → Bool
 atComma [] = false
-atComma (b ∷ bs) = eqb b 44
+atComma (b ∷ bs) = eqb b comma
 
 -- how many bytes stand before the first place that the test finds
 abbrev pub before : (List ℕ → Bool) → List ℕ → ℕ
@@ -55,7 +55,7 @@ before-le stop (b ∷ bs) = by-test (stop (b ∷ bs)) (λ t. rw t (omega arith))
 pub rows-step : (b : ℕ) (bs : List ℕ) → rows (b ∷ bs) ≡ stretch atCrlf (b ∷ bs) ∷ rows (drop (before atCrlf (b ∷ bs) + 2) (b ∷ bs))
 rows-step b [] = refl
 rows-step b (c ∷ bs) =
-    by-test (eqb b 13 && eqb c 10)
+    by-test (eqb b cr && eqb c lf)
     (λ t. rw t)
     (λ t. rw (t, rows-step c bs, suc-add))
 
@@ -66,7 +66,7 @@ from-next b bs k = rw (leb·suc-suc k (length bs))
 pub fields-step : (l : List ℕ) → fields l ≡ stretch atComma l ∷ fieldsFrom l (before atComma l + 1)
 fields-step [] = refl
 fields-step (b ∷ bs) =
-    by-test (eqb b 44)
+    by-test (eqb b comma)
     (λ t. rw (t, from-next b bs 0, leb·zero (length bs)))
     (λ t. rw (t, fields-step bs, suc-add (before atComma bs) 1, from-next b bs (before atComma bs + 1)))
 

@@ -4,6 +4,7 @@ ghost use lib.ListN.{length, drop};
 ghost use Rattle.reader.specs.File.{fields, lengthOk, valueOf, numberOf};
 ghost use Rattle.reader.specs.Stretches.{atComma, before, stretch};
 ghost use Rattle.reader.specs.Gathered.{Gathered};
+use crate::BUS_FIELDS;
 use crate::Number;
 use crate::Numbers;
 
@@ -87,11 +88,11 @@ pub fn number_of(field: &[u8]) -> Number
     Number::Broken
 }
 
-// The numbers of a row's fields, in order. Not ok where a field is no number or where there are more than ten.
+// The numbers of a row's fields, in order. Not ok where a field is no number or where there are more than a bus has.
 pub fn numbers_of(row: &[u8]) -> Numbers
     ensures { λ r. ⌜ Gathered (fields (now (row .entry))) r ⌝ }
 {
-    let mut values = [0u32; 10];
+    let mut values = [0u32; BUS_FIELDS];
     let mut count: usize = 0;
     let mut at: usize = 0;
     while at <= row.len() {
@@ -105,7 +106,7 @@ pub fn numbers_of(row: &[u8]) -> Numbers
                 values,
             };
         };
-        if 10 <= count {
+        if BUS_FIELDS <= count {
             return Numbers {
                 ok: false,
                 count,

@@ -4,7 +4,7 @@ ghost use Prim.Native.Nat.{_≤_};
 ghost use lib.ListN.{length};
 ghost use Rattle.network.specs.Network.{network};
 ghost use Rattle.network.specs.Calls.{emptyNetwork};
-ghost use Rattle.reader.specs.File.{rows, rowNumber, afterRow, outcomeOf, refusedAt, closeAfter, readFrom, readOf};
+ghost use Rattle.reader.specs.File.{maxBytes, rows, rowNumber, afterRow, outcomeOf, refusedAt, closeAfter, readFrom, readOf};
 
 mod fields;
 mod rows;
@@ -21,8 +21,12 @@ use network::start;
 use rows::row_end;
 use rows::row_of;
 
-// The most bytes that a text may have.
+// The most bytes that a text may have, and the fields of a bus row and of a source row.
 const BYTES: usize = 65_536;
+
+const BUS_FIELDS: usize = 10;
+
+const SOURCE_FIELDS: usize = 7;
 
 // What the bytes of a field say.
 pub enum Number {
@@ -34,7 +38,7 @@ pub enum Number {
 pub struct Numbers {
     pub ok: bool,
     pub count: usize,
-    pub values: [u32; 10],
+    pub values: [u32; BUS_FIELDS],
 }
 
 // What a row says: the tolerance of a start, a record, or nothing that the file's form allows.
@@ -96,7 +100,7 @@ fn closed_after(row: u32, s: Study) -> Reading
 
 // The rows of a text taken in order, up to the first that is refused.
 fn read_rows(text: &[u8]) -> Reading
-    requires { ⌜ length (now text) ≤ 65536 ⌝ }
+    requires { ⌜ length (now text) ≤ maxBytes ⌝ }
     ensures { λ r. ⌜ outcomeOf r ≡ readFrom 0 emptyNetwork (rows (now (text .entry))) ⌝ }
 {
     let empty = start(6);

@@ -1,10 +1,12 @@
 ghost use mathlib.Core.Path.{_≡_};
 ghost use Prim.Native.Nat.{_+_, _≤_, _<_};
 ghost use lib.ListN.{length, take, drop};
-ghost use Rattle.reader.specs.File.{busOf, sourceOf, recordOf, rowOf};
+ghost use Rattle.reader.specs.File.{busFields, busOf, sourceOf, recordOf, rowOf};
 ghost use Rattle.reader.specs.Stretches.{atCrlf, before};
+use crate::BUS_FIELDS;
 use crate::Numbers;
 use crate::Row;
+use crate::SOURCE_FIELDS;
 use crate::fields::numbers_of;
 use network::Bus;
 use network::Source;
@@ -36,7 +38,8 @@ pub fn row_end(text: &[u8], at: usize) -> usize
     i
 }
 
-fn bus_of(v: [u32; 10]) -> Bus
+// The numbers of a row as a bus record, in its fields' order.
+fn bus_of(v: [u32; BUS_FIELDS]) -> Bus
     ensures { λ r. ⌜ r ≡ busOf v ⌝ }
 {
     Bus {
@@ -53,7 +56,8 @@ fn bus_of(v: [u32; 10]) -> Bus
     }
 }
 
-fn source_of(v: [u32; 10]) -> Source
+// The first numbers of a row as a source record, in its fields' order.
+fn source_of(v: [u32; BUS_FIELDS]) -> Source
     ensures { λ r. ⌜ r ≡ sourceOf v ⌝ }
 {
     Source {
@@ -67,9 +71,10 @@ fn source_of(v: [u32; 10]) -> Source
     }
 }
 
-// The record that a letter and the numbers after it give: S and one number in row 1; in any other B and ten, or P and seven.
+// The record that a letter and the numbers after it give: S and one number in row 1; in any other B or P with the numbers of
+// their records.
 fn record_of(first: bool, letter: u8, n: Numbers) -> Row
-    requires { ⌜ n .count ≤ 10 ⌝ }
+    requires { ⌜ n .count ≤ busFields ⌝ }
     ensures { λ r. ⌜ r ≡ recordOf first letter (take (n .count) (n .values)) ⌝ }
 {
     let v = n.values;
@@ -79,11 +84,11 @@ fn record_of(first: bool, letter: u8, n: Numbers) -> Row
         }
         return Row::Malformed;
     }
-    if (letter == b'B') & (n.count == 10) {
+    if (letter == b'B') & (n.count == BUS_FIELDS) {
         let b = bus_of(v);
         return Row::WithBus(b);
     }
-    if (letter == b'P') & (n.count == 7) {
+    if (letter == b'P') & (n.count == SOURCE_FIELDS) {
         let p = source_of(v);
         return Row::WithSource(p);
     }

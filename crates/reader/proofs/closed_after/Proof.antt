@@ -1,8 +1,8 @@
-use mathlib.Core.Path.{_≡_, ap, sym, _∙_}
+use mathlib.Core.Path.{ap, sym, _∙_}
+use borrow.Author.Needs.{needs}
 use Rattle.network.specs.Network.{network}
 use Rattle.reader.specs.File.{acceptedAs}
 use Rattle.reader.proofs.Taking.{close-accepted, close-refused}
-use borrow.Author.Needs.{needs}
 use Rattle.reader.proofs.closed_after.Statement.{statement}
 use Rattle.reader.proofs.closed_after.Tie as tie
 

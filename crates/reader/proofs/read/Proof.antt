@@ -1,10 +1,10 @@
 use mathlib.Core.Path.{_≡_, refl, ap, _∙_}
+use borrow.Author.Needs.{needs}
 use lib.ListN.{length}
 use Rattle.network.specs.Network.{network}
 use Rattle.network.specs.Tests.{within-true}
 use Rattle.reader.specs.declared.Reading.{Reading}
-use Rattle.reader.specs.File.{Outcome, outcomeOf, readOf}
-use borrow.Author.Needs.{needs}
+use Rattle.reader.specs.File.{maxBytes, Outcome, outcomeOf, readOf}
 use Rattle.reader.proofs.read.Statement.{statement}
 use Rattle.reader.proofs.read.Tie as tie
 
@@ -12,7 +12,7 @@ parts : (r : Reading) (o : Outcome) → outcomeOf r ≡ o → (r .number ≡ o .
 parts r o e = (ap (λ (x : Outcome). x .number) e, (ap (λ (x : Outcome). x .row) e, ap (λ (x : Outcome). x .network) e))
 
 read-rows-requires : tie.Need-read-rows-requires
-read-rows-requires c κs = within-true (length (c .before .before .args .text .now)) 1 65536 (c .if1 .taken) .1
+read-rows-requires c κs = within-true (length (c .before .before .args .text .now)) 1 maxBytes (c .if1 .taken) .1
 
 returns : tie.Need-returns
 unfolding readOf

@@ -1,4 +1,3 @@
-use mathlib.Core.Path.{_≡_, refl, sym, _∙_}
 use borrow.Author.Needs.{needs}
 use Rattle.reader.proofs.take_row.Statement.{statement}
 use Rattle.reader.proofs.take_row.Tie as tie

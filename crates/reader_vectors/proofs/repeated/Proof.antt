@@ -1,7 +1,7 @@
 use mathlib.Core.Path.{_≡_}
 use Prim.Native.Nat.{_-_, _≤_}
-use borrow.Author.Needs.{needs}
 use native.Mathlib.Omega.{arith}
+use borrow.Author.Needs.{needs}
 use lib.ListN.{length, length-take}
 use Rattle.reader_vectors.proofs.repeated.Statement.{statement}
 use Rattle.reader_vectors.proofs.repeated.Tie as tie

@@ -1,9 +1,9 @@
-use mathlib.Core.Path.{_≡_, refl, sym, _∙_}
-use Prim.Native.Nat.{_+_, _-_, _≤_}
+use mathlib.Core.Path.{_≡_}
+use Prim.Native.Nat.{_-_}
 use native.Mathlib.Omega.{arith}
+use borrow.Author.Needs.{needs}
 use lib.ListN.{drop}
 use Rattle.reader.specs.Stretches.{atComma, before}
-use borrow.Author.Needs.{needs}
 use Rattle.reader.proofs.fields.field.Statement.{statement}
 use Rattle.reader.proofs.fields.field.Tie as tie
 

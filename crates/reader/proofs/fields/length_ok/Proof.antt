@@ -1,9 +1,9 @@
 use Prim.Native.Nat.{_≤_}
 use native.Mathlib.Omega.{arith}
 use borrow.Author.Tests.{le-leb, lt-leb, ne-eqb}
+use borrow.Author.Needs.{needs}
 use lib.ListN.{length}
 use Rattle.reader.specs.File.{lengthOk}
-use borrow.Author.Needs.{needs}
 use Rattle.reader.proofs.fields.length_ok.Statement.{statement}
 use Rattle.reader.proofs.fields.length_ok.Tie as tie
 

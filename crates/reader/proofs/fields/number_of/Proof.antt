@@ -1,6 +1,6 @@
-use mathlib.Core.Path.{_≡_, refl, sym, _∙_}
-use Rattle.reader.specs.File.{numberOf}
+use mathlib.Core.Path.{sym, _∙_}
 use borrow.Author.Needs.{needs}
+use Rattle.reader.specs.File.{numberOf}
 use Rattle.reader.proofs.fields.number_of.Statement.{statement}
 use Rattle.reader.proofs.fields.number_of.Tie as tie
 

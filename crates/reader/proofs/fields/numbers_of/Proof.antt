@@ -1,10 +1,9 @@
-use Rattle.reader.proofs.Gathering.{begun, done, within-row, broken, full, more}
-use mathlib.Core.Path.{_≡_, refl, sym, _∙_}
-use Prim.Native.Nat.{_+_, _-_, _≤_}
+use mathlib.Core.Path.{refl, sym, _∙_}
+use Prim.Native.Nat.{_+_, _-_}
 use native.Mathlib.Omega.{arith}
 use borrow.Author.Needs.{needs}
-use lib.ListN.{length, drop}
-use Rattle.reader.proofs.Gathering.{Progress}
+use lib.ListN.{length}
+use Rattle.reader.proofs.Gathering.{begun, done, within-row, broken, full, more, Progress}
 use Rattle.reader.proofs.fields.numbers_of.Statement.{statement}
 use Rattle.reader.proofs.fields.numbers_of.Tie as tie
 

@@ -1,7 +1,7 @@
 use mathlib.Core.Path.{_≡_, refl, sym, _∙_}
 use Prim.Native.Nat.{_+_, _*_, _-_, _^_, _≤_, _<_}
-use borrow.Author.Needs.{needs}
 use native.Mathlib.Omega.{arith}
+use borrow.Author.Needs.{needs}
 use lib.ListN.{length, drop, drop-of-length-le}
 use Rattle.reader.specs.File.{digits, decimal}
 use Rattle.reader.proofs.Bytes.{digits-low, digits-high, digits-more, decimal-more, decimal-least, value-other, value-large, value-small}

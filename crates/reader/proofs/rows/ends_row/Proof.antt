@@ -1,6 +1,6 @@
 use mathlib.Core.Path.{sym}
-use Rattle.reader.proofs.Bytes.{crlf-last, crlf-next}
 use borrow.Author.Needs.{needs}
+use Rattle.reader.proofs.Bytes.{crlf-last, crlf-next}
 use Rattle.reader.proofs.rows.ends_row.Statement.{statement}
 use Rattle.reader.proofs.rows.ends_row.Tie as tie
 

@@ -1,12 +1,12 @@
-use Rattle.reader.specs.Gathered.{Gathered}
+use mathlib.Core.Path.{sym, _∙_}
 use Prim.Native.Nat.{_-_}
-use lib.ListN.{length, take, drop, length-drop}
-use lib.Seq.{take-all}
-use Rattle.reader.specs.File.{fields}
-use mathlib.Core.Path.{_≡_, refl, sym, _∙_}
 use native.Mathlib.Omega.{arith}
-use Rattle.reader.proofs.Records.{fields-taken, fields-broken, row-short, row-other, row-fields}
 use borrow.Author.Needs.{needs}
+use lib.ListN.{length, drop, length-drop}
+use lib.Seq.{take-all}
+use Rattle.reader.specs.Gathered.{Gathered}
+use Rattle.reader.specs.File.{fields}
+use Rattle.reader.proofs.Records.{fields-taken, fields-broken, row-short, row-other, row-fields}
 use Rattle.reader.proofs.rows.row_of.Statement.{statement}
 use Rattle.reader.proofs.rows.row_of.Tie as tie
 
