@@ -1,5 +1,5 @@
-// Reads texts and prints of each, on a line: number and row, and of the study the tolerance, whether it is closed, and how many buses
-// and sources it has.
+// Reads texts and prints of each, on a line: number and row, what closing the study then answers (21 where the text closed it), and how
+// many buses it has.
 ghost use Prim.Native.Nat.{_≤_};
 ghost use lib.ListN.{length};
 use libc::STDOUT_FILENO;
@@ -18,10 +18,8 @@ fn tell(text: &[u8]) {
     let study = r.study;
     field(wide(r.number));
     field(wide(r.row));
-    field(wide(network::tolerance_of(study)));
-    field(if network::is_closed(study) { 1 } else { 0 });
-    field(network::bus_total(study) as u64);
-    io::print_decimal(STDOUT_FILENO, network::source_total(study) as u64);
+    field(wide(network::close(study).number));
+    io::print_decimal(STDOUT_FILENO, network::bus_total(study) as u64);
     io::write_all(STDOUT_FILENO, b"\n");
 }
 
