@@ -9,6 +9,8 @@ import sys
 import time
 from pathlib import Path
 
+from edits import listed_edits, quick_refusals, read, refusals
+
 COUNT = re.compile(r"(\d+) passed, (\d+) failed")
 
 
@@ -27,10 +29,6 @@ def run(command):
             lines.append(line.rstrip("\n"))
     count = COUNT.fullmatch(lines[-1]) if lines else None
     return child.returncode, lines, count and (int(count[1]), int(count[2]))
-
-
-def read(path):
-    return Path(path).read_text(encoding="utf-8", errors="replace")
 
 
 # ---- the files of the repository
@@ -83,7 +81,7 @@ def layout(crates):
     return reasons
 
 
-# ---- rt ci and the must-fail edits
+# ---- rt ci
 
 def prove(crates, edits):
     """Runs rt ci, and counts the crates that it proved and whose programs wrote what they should."""
@@ -98,52 +96,6 @@ def prove(crates, edits):
     if not failed and (status != 0 or count != (len(crates) + len(edits), 0)):
         reasons.append(f"rt ci: status {status} and the count {count}, for {len(crates)} crates and {len(edits)} edits")
     return len(crates) - len(set(bad) & set(crates)), len(bad), reasons
-
-
-# How the first error of a log begins, and the name of the declaration that it refuses. An error with no such name says
-# that a text cannot be read, or that a file or a name is not there.
-ERROR = re.compile(r"(?!note: )(?:[^`]*?: )?error(?:\[[\w-]+\])?: (?:`([^`]+)`: )?")
-# Declarations that hold no proof: an error there says that a statement makes no sense, not that it is false.
-STATEMENT = ("Inv-", "μ-", "requires-", "ensures-")
-# Errors of a text that does not parse, or that speaks of a name, a need, a field or an argument that is not there.
-MISFIT = re.compile(
-    r"can be named from here|not in scope|no constructor `|not a constructor|operand is missing|operators of one level"
-    r"|has no field|projects from a record|not a record type|needs a function|applied to an argument but|does not define it")
-NEED_FOR_NEED = re.compile(r"but this has type `[\w.]*\bNeed-")
-
-
-def judge(log):
-    """Why the log of a must-fail edit does not show that a fact fails: a reason, or None where it shows that."""
-    if re.search(r"^logic=proved ", log, re.M):
-        return "NOT REFUSED: the crate is still proved with this edit"
-    if not re.search(r"^logic=not-proved", log, re.M):
-        return "it did not reach the prover"
-    entries = re.split(r"\n(?!  )", log)  # a line together with the indented lines below it
-    errors = [entry for entry in entries if ERROR.match(entry) and "was not admitted" not in entry.splitlines()[0]]
-    if not errors:
-        searched = any(re.match(r"fn .*: no proof: .*`search` does not close", entry) for entry in entries)
-        return None if searched else "refused, and the log names no fact that fails"
-    first = errors[0].splitlines()[0]
-    name = ERROR.match(first)[1]
-    if name and not name.startswith(STATEMENT) and not MISFIT.search(first) and not NEED_FOR_NEED.search(errors[0]):
-        return None
-    return "refused only for its shape: " + re.sub(r"^.*?/target/must-fail/[^/]+/[^/]+/", "", first)[:240]
-
-
-def refusals(edits):
-    """Counts the edits that rt ci tried and that were refused because a fact no longer holds."""
-    reasons = []
-    for edit in edits:
-        log = Path("target/must-fail", edit.parts[1], edit.stem, ".log")
-        if edit.suffix != ".edit":
-            reason = "it is no .edit file, so nothing tries it"
-        elif re.search(r"^file: proofs/", read(edit), re.M):
-            reason = "it edits a proof, which shows nothing of the code"
-        else:
-            reason = judge(read(log)) if log.is_file() else "it has no log: rt ci did not try it"
-        if reason:
-            reasons.append(f"{edit}: {reason}")
-    return len(edits) - len(reasons), len(reasons), reasons
 
 
 # ---- the other tests
@@ -168,13 +120,14 @@ def main():
     os.chdir(Path(__file__).resolve().parent.parent)
     sys.stdout.reconfigure(encoding="utf-8", errors="replace", line_buffering=True)
     crates = listed_crates()
-    edits = sorted(Path("crates").glob("*/must-fail/*"))
+    edits = listed_edits()
     reasons = layout(crates)
     passed, failed = 0, len(reasons)
     if reasons:
         print("Nothing was proved or run: the repository's files are to be put right first.")
     else:
-        parts = [("crates (rt ci)", prove, crates, edits), ("must-fail edits (rt ci)", refusals, edits)]
+        parts = [("crates (rt ci)", prove, crates, edits), ("must-fail edits (rt ci)", refusals, edits),
+                 ("must-fail edits (rt dev)", quick_refusals)]
         parts += [(str(path), try_test, path) for path in sorted(Path("tests").glob("check-*"))]
         table = [("part", "passed", "failed", "seconds")]
         for name, work, *arguments in parts:
