@@ -33,7 +33,7 @@ use Rattle.tree.specs.Sums.{sums}
 use Rattle.tree.specs.Bound.{AtMost, Low, seen-most}
 use Rattle.tree.specs.Held.{Held, held-more, held-good, InRange}
 use Rattle.tree.specs.Sound.{sound-proper}
-use Rattle.tree.specs.Fed.{seen-reactive, seen-proper}
+use Rattle.tree.specs.Fed.{seen-reactive}
 use Rattle.tree.specs.Seen.{seen-near, seen-low, seen-high}
 use Rattle.tree.specs.Rooted.{carried-proper}
 use Rattle.tree.specs.Currents.{carried-near, carried-range, carried-most}
@@ -70,9 +70,11 @@ unfolding inverse
 impedance-of x h = rw (ne-eqb (x .re + x .im) 0 (λ e. omega arith))
 
 -- the machines' figures, from the admittance P to the impedance 1/P
-machines-hold : (c Un : ℕ) (P : Point) (y : Complex) → 0 < P .im → MachineFigures c Un P y
+machines-hold : (c Un : ℕ) (P : Point) (y : Complex) → 0 < P .im → 0 < P .den → MachineFigures c Un P y
     → MachinesHold (c * Un) (inverse P) (figuresBy c Un y y .lower) (figuresBy c Un y y .upper) (figuresBy c Un y y .peak)
-machines-hold c Un P y h f = rw (impedance-of P h) (record {
+machines-hold c Un P y h d f = rw (impedance-of P h) (record {
+  proper = let s = mul-pos h h in omega arith;
+  some = let s = mul-pos h d in omega arith;
   below = below-as c Un (P .re) (P .im) (P .den) _ (f .bounds .below);
   above = above-as c Un (P .re) (P .im) (P .den) _ (f .bounds .above);
   narrow = width 1000 _ _ (lit≤ tt) (f .bounds .narrow);
@@ -88,8 +90,10 @@ machines-hold c Un P y h f = rw (impedance-of P h) (record {
     under A B D = identity (A ∷ B ∷ D ∷ []) (search read depth 40 fits 20000) refl
 
 -- the converters' figures, on the real axis
-converters-hold : (P : Point) (x : Complex) → P .im ≡ 0 → ConverterFigures P x → ConvertersHold P (figuresBy 0 0 x x .«converters_lower») (figuresBy 0 0 x x .«converters_upper») (figuresBy 0 0 x x .«converters_peak»)
-converters-hold P x e f = record {
+converters-hold : (P : Point) (x : Complex) → 0 < P .den → P .im ≡ 0 → ConverterFigures P x → ConvertersHold P (figuresBy 0 0 x x .«converters_lower») (figuresBy 0 0 x x .«converters_upper») (figuresBy 0 0 x x .«converters_peak»)
+converters-hold P x d e f = record {
+  proper = d;
+  real = e;
   below = root-le _ (P .re) (low _ (P .re) (P .im) (P .den) e (f .bounds .below));
   above = root-le (P .re) _ (high _ (P .re) (P .im) (P .den) e (f .bounds .above));
   narrow = width 1000 _ _ (lit≤ tt) (f .bounds .narrow);
@@ -189,17 +193,20 @@ module _ {n : Network} (r : Rebuilt n) (source : 0 < length (n .sources)) (b : �
       let g = carried-range (gridOf n) (voltsOf n) (sound r) (levels r) (amperes r) (omega arith) (convertersBy n) 1032 (lit≤ tt) (λ i l. current-near r i (volts i l)) b lb in
       converter-figures (1032 + (288 + 4 * length (n .buses))) _ _ (omega arith) (h .0) (h .1) (range-extent _ g) converters-room
 
+  seen-fraction : 0 < seen (gridOf n) b b .den
+  seen-fraction = seen-held .0 .left
+
+  carried-fraction : 0 < carried (gridOf n) b .den
+  carried-fraction = carried-proper (gridOf n) (sound r .tree) (λ i z m. (sound r .volts i z m .0 .0, sound r .volts i z m .1 .0)) (amperes r .proper) b lb
+
   machine-order : figuresAt n b .lower ≤ figuresAt n b .upper
   machine-order = order 3 (seen (gridOf n) b b .den * 1 * 100) _ _ _ (mul-pos (lit< tt) (mul-pos hundred hundred)) (machine-part .bounds .below) (machine-part .bounds .above)
     where
       hundred : 0 < seen (gridOf n) b b .den * 1 * 100
-      hundred = mul-pos (mul-pos (seen-held .0 .left) (lit< tt)) (lit< tt)
+      hundred = mul-pos (mul-pos seen-fraction (lit< tt)) (lit< tt)
 
   converter-order : figuresAt n b .«converters_lower» ≤ figuresAt n b .«converters_upper»
-  converter-order = order 1 (carried (gridOf n) b .den) _ _ _ (mul-pos (lit< tt) (mul-pos proper proper)) (converter-part .bounds .below) (converter-part .bounds .above)
-    where
-      proper : 0 < carried (gridOf n) b .den
-      proper = carried-proper (gridOf n) (sound r .tree) (λ i z m. (sound r .volts i z m .0 .0, sound r .volts i z m .1 .0)) (amperes r .proper) b lb
+  converter-order = order 1 (carried (gridOf n) b .den) _ _ _ (mul-pos (lit< tt) (mul-pos carried-fraction carried-fraction)) (converter-part .bounds .below) (converter-part .bounds .above)
 
   pub figures-whole : Whole (amperesAt n b) (figuresAt n b)
   figures-whole = record {
@@ -219,8 +226,8 @@ module _ {n : Network} (r : Rebuilt n) (source : 0 < length (n .sources)) (b : �
   demand = record {
     figures = figuresAt n b;
     whole = figures-whole;
-    machines = machines-hold _ (voltsOf n b) (seen (gridOf n) b b) (seenAt n b) reactive machine-part;
-    converters = converters-hold (carried (gridOf n) b) (carriedAt n b) (carried-real (gridOf n) (λ i l. current-real r i) b lb) converter-part;
+    machines = machines-hold _ (voltsOf n b) (seen (gridOf n) b b) (seenAt n b) reactive seen-fraction machine-part;
+    converters = converters-hold (carried (gridOf n) b) (carriedAt n b) carried-fraction (carried-real (gridOf n) (λ i l. current-real r i) b lb) converter-part;
   }
 
 -- THE CLAIM, for every list of calls, refused ones among them: if its run is closed, then what is given for any bus of it meets demand 3

@@ -50,14 +50,19 @@ Narrow lower upper = 1000 * upper ≤ 1000 * (lower + 2) + upper
 
 -- the machines' two bounds and peak against the impedance Z
 pub record MachinesHold (v : ℕ) (Z : Point) (lower upper peak : ℕ) : Type 0 where
+  -- Z is a fraction and not nothing, so that no comparison holds for want of either
+  pub proper : 0 < Z .den
+  pub some : 0 < Z .re + Z .im
   pub below : NotAbove v Z lower
   pub above : NotBelow v Z upper
   pub narrow : Narrow lower upper
   -- "The exact peaks are √2·I·(1.02 + 0.98/T(3R/X)), ..", with I² = (c·Un)²/(3·(R² + X²))
   pub crest : PeakBound peak (peakOver (v * v * (Z .den * Z .den)) (Z .re) (Z .im)) (peakUnder (30000 * norm (Z .re) (Z .im)) (Z .re) (Z .im))
 
--- the converters' two bounds and peak against their exact sum, on the real axis: ".. and √2 times the converters' part"
+-- the converters' two bounds and peak against their exact sum C, a fraction on the real axis: ".. and √2 times the converters' part"
 pub record ConvertersHold (C : Point) (lower upper peak : ℕ) : Type 0 where
+  pub proper : 0 < C .den
+  pub real : C .im ≡ 0
   pub below : lower * C .den ≤ C .re
   pub above : C .re ≤ upper * C .den
   pub narrow : Narrow lower upper

@@ -28,7 +28,7 @@ verdictOn L U P rating peakRating =
     (cond (ltb rating U) Close
     (Within (ofNat (rating - U)))))
 
--- each verdict's letter in the file, "W, O or C (within, over, close)", and its amperes, 0 for close
+-- each verdict's letter in the file: "W, O or C (within, over, close)"
 abbrev pub letterOf : Verdict → ℕ
 letterOf (Within x) = 87
 letterOf (Over x) = 79
