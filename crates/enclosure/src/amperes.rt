@@ -1,9 +1,9 @@
 // Amperes as f64. An rms ampere and a peak ampere are two quantities, so that neither is taken for the other.
-// The contracts give the f64 operation; on whole numbers below 2^53 it is that of the whole numbers (specs/Whole.antt).
+// The contracts give the f64 operation; on whole numbers up to 2^53 it is that of the whole numbers (specs/Whole.antt).
 ghost use mathlib.Core.Path.{_≡_};
-ghost use Prim.Native.Nat.{_≤_, _^_};
-ghost use lib.Ieee.{binary64, add, sub, lt};
-ghost use Rattle.enclosure.specs.Units.{ofNat};
+ghost use Prim.Native.Nat.{_^_, min};
+ghost use lib.Ieee.{binary64, add, sub, lt, le};
+ghost use Rattle.enclosure.specs.Whole.{wholeOf};
 
 // Root-mean-square amperes.
 pub struct Rms(pub f64);
@@ -11,24 +11,32 @@ pub struct Rms(pub f64);
 // Peak amperes.
 pub struct Peak(pub f64);
 
-// A whole number as f64, nothing lost.
-fn whole(n: u64) -> f64
-    requires { ⌜ n ≤ 2 ^ 53 ⌝ }
-    ensures { λ r. ⌜ r ≡ ofNat n ⌝ }
+// n, or 2^53 for any more.
+fn capped(n: u64) -> u64
+    ensures { λ r. ⌜ r ≡ min n (2 ^ 53) ⌝ }
 {
-    n as f64
+    if n < 9007199254740992 {
+        n
+    } else {
+        9007199254740992
+    }
+}
+
+// A whole number as f64, nothing lost; 2^53 for any more.
+fn whole(n: u64) -> f64
+    ensures { λ r. ⌜ r ≡ wholeOf n ⌝ }
+{
+    capped(n) as f64
 }
 
 pub fn rms_of(n: u64) -> Rms
-    requires { ⌜ n ≤ 2 ^ 53 ⌝ }
-    ensures { λ r. ⌜ r .0 ≡ ofNat n ⌝ }
+    ensures { λ r. ⌜ r .0 ≡ wholeOf n ⌝ }
 {
     Rms(whole(n))
 }
 
 pub fn peak_of(n: u64) -> Peak
-    requires { ⌜ n ≤ 2 ^ 53 ⌝ }
-    ensures { λ r. ⌜ r .0 ≡ ofNat n ⌝ }
+    ensures { λ r. ⌜ r .0 ≡ wholeOf n ⌝ }
 {
     Peak(whole(n))
 }
@@ -68,4 +76,10 @@ pub fn exceeds_peak(a: Peak, b: Peak) -> bool
     ensures { λ r. ⌜ r ≡ lt (b .0) (a .0) ⌝ }
 {
     a.0 > b.0
+}
+
+pub fn at_most_rms(a: Rms, b: Rms) -> bool
+    ensures { λ r. ⌜ r ≡ le (a .0) (b .0) ⌝ }
+{
+    a.0 <= b.0
 }

@@ -6,6 +6,7 @@ use Rattle.enclosure.specs.declared.Complex.{Complex}
 use Rattle.enclosure.specs.Point.{pick}
 use Rattle.enclosure.specs.Doubles.{empty, sizeBelow, lowerOf, upperOf}
 use Rattle.enclosure.specs.Climb.{size-small}
+use Rattle.elements.specs.Currents.{machinePeakBy, converterPeakBy}
 
 picked : (t : Bool) (n m : ℕ) → n ≤ m → pick t 0 n ≤ m
 picked true n m h = omega arith
@@ -18,3 +19,11 @@ lower-most p q z = picked (empty z) (sizeBelow 1073741823 p q z) (2 ^ 53) (omega
 pub upper-most : (p q : ℕ) (z : Complex) → upperOf p q z ≤ 2 ^ 53
 unfolding upperOf
 upper-most p q z = picked (empty z) (sizeBelow 1073741825 p q z + 1) (2 ^ 53) (omega (arith, size-small 1073741825 p q z))
+
+pub machine-peak-most : (c volts : ℕ) (y : Complex) → machinePeakBy c volts y ≤ 2 ^ 53
+unfolding machinePeakBy
+machine-peak-most c volts y = upper-most 2 3 _
+
+pub converter-peak-most : (x : Complex) → converterPeakBy x ≤ 2 ^ 53
+unfolding converterPeakBy
+converter-peak-most x = upper-most 2 1 _

@@ -1,13 +1,14 @@
--- An ampere is its number.
+-- An ampere is its number, where that is at most 2 ^ 53.
 use mathlib.Core.Path.{_≡_, ap, _∙_}
-use Prim.Native.Nat.{ℕ}
+use Prim.Native.Nat.{ℕ, _^_, _≤_}
 use lib.Ieee.{Float}
 use Rattle.enclosure.specs.declared.amperes.Rms.{Rms}
 use Rattle.enclosure.specs.declared.amperes.Peak.{Peak}
 use Rattle.enclosure.specs.Units.{ofNat}
+use Rattle.enclosure.specs.Whole.{wholeOf, whole-few}
 
-pub rms-whole : {r : Rms} {n m : ℕ} → r .0 ≡ ofNat n → n ≡ m → r ≡ record { 0 = ofNat m }
-rms-whole {r} {n} {m} e f = ap (λ (x : Float). record { 0 = x }) (e ∙ ap ofNat f)
+pub rms-whole : {r : Rms} {n m : ℕ} → r .0 ≡ wholeOf n → n ≡ m → m ≤ 2 ^ 53 → r ≡ record { 0 = ofNat m }
+rms-whole {r} {n} {m} e f h = ap (λ (x : Float). record { 0 = x }) (e ∙ ap wholeOf f ∙ whole-few m h)
 
-pub peak-whole : {r : Peak} {n m : ℕ} → r .0 ≡ ofNat n → n ≡ m → r ≡ record { 0 = ofNat m }
-peak-whole {r} {n} {m} e f = ap (λ (x : Float). record { 0 = x }) (e ∙ ap ofNat f)
+pub peak-whole : {r : Peak} {n m : ℕ} → r .0 ≡ wholeOf n → n ≡ m → m ≤ 2 ^ 53 → r ≡ record { 0 = ofNat m }
+peak-whole {r} {n} {m} e f h = ap (λ (x : Float). record { 0 = x }) (e ∙ ap wholeOf f ∙ whole-few m h)

@@ -1,5 +1,6 @@
 -- "The network of a study is read off the calls made on it, each given the study as the one before left it."
-use mathlib.Core.List.{List, [], _∷_}
+use mathlib.Core.Path.{_≡_, refl}
+use mathlib.Core.List.{List, [], _∷_, _++_}
 use Prim.Native.Nat.{ℕ}
 use Rattle.network.specs.declared.Bus.{Bus}
 use Rattle.network.specs.declared.Source.{Source}
@@ -33,3 +34,8 @@ emptyNetwork = emptyOf 6
 
 unfoldable pub run : List Call → Network
 run cs = runFrom emptyNetwork cs
+
+-- one list of calls after another
+pub run-append : (n : Network) (a b : List Call) → runFrom n (a ++ b) ≡ runFrom (runFrom n a) b
+run-append n [] b = refl
+run-append n (c ∷ a) b = run-append (step n c) a b

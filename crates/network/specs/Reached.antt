@@ -12,7 +12,7 @@ use Rattle.network.specs.declared.Bus.{Bus}
 use Rattle.network.specs.declared.Source.{Source}
 use Rattle.network.specs.Network.{Network, blank, blankSource, busAt, sourceAt}
 use Rattle.network.specs.Grounds.{startNetwork, busNumber, afterBus, sourceNumber, afterSource, closeNumber, afterClose}
-use Rattle.network.specs.Calls.{Call, step, runFrom, emptyNetwork, run}
+use Rattle.network.specs.Calls.{Call, step, runFrom, run-append, emptyNetwork, run}
 use Rattle.network.specs.Calls.Call.{starting, addingBus, addingSource, closing}
 use Rattle.network.specs.Tests.{by-test}
 use Rattle.network.specs.Acceptance.{bus-record-same, bus-number-open, source-number-open, granted}
@@ -45,10 +45,6 @@ added-from call put d l all (suc m) k e =
 
 added : {X : Type 0} (call : X → Call) (put : List X → Network) (d : X) (l : List X) → ((i : ℕ) → i < length l → step (put (take i l)) (call (getD l i d)) ≡ put (take (suc i) l)) → runFrom (put []) (map call l) ≡ put l
 added call put d l all = added-from call put d l all (length l) 0 (omega arith)
-
-run-append : (n : Network) (a b : List Call) → runFrom n (a ++ b) ≡ runFrom (runFrom n a) b
-run-append n [] b = refl
-run-append n (c ∷ a) b = run-append (step n c) a b
 
 -- the calls that make a network
 abbrev pub callsOf : Network → List Call

@@ -1,8 +1,8 @@
 -- Document 01, "Verdict": on six amperes and the two ratings of a bus.
 use Prim.Native.Nat.{ℕ, _+_, _-_}
 use mathlib.Core.Bool.{Bool, cond}
-use lib.Dec.{ltb}
-use lib.Ieee.{Float, binary64, add, sub, lt}
+use lib.Dec.{ltb, leb}
+use lib.Ieee.{Float, binary64, add, sub, lt, le}
 use Rattle.enclosure.specs.Units.{ofNat}
 use Rattle.network.specs.declared.Amperes.{Amperes}
 use Rattle.network.specs.declared.Verdict.{Verdict}
@@ -17,16 +17,16 @@ verdictOf a rating peakRating = by (add binary64 (a .lower .0) (a .«converters_
     by L U P =
         cond (lt peakRating P) (Over (sub binary64 P peakRating))
         (cond (lt rating L) (Over (sub binary64 L rating))
-        (cond (lt rating U) Close
-        (Within (sub binary64 rating U))))
+        (cond (le U rating) (Within (sub binary64 rating U))
+        Close))
 
 -- the same on whole numbers, as document 01 words it
 abbrev pub verdictOn : ℕ → ℕ → ℕ → ℕ → ℕ → Verdict
 verdictOn L U P rating peakRating =
     cond (ltb peakRating P) (Over (ofNat (P - peakRating)))
     (cond (ltb rating L) (Over (ofNat (L - rating)))
-    (cond (ltb rating U) Close
-    (Within (ofNat (rating - U)))))
+    (cond (leb U rating) (Within (ofNat (rating - U)))
+    Close))
 
 -- each verdict's letter in the file: "W, O or C (within, over, close)"
 abbrev pub letterOf : Verdict → ℕ

@@ -4,12 +4,12 @@ use mathlib.Core.Path.{_≡_, refl, sym, _∙_, ap}
 use mathlib.Core.Bool.{Bool, true, false, cond}
 use native.Mathlib.Omega.{arith}
 use native.Mathlib.Nat.{le-trans, le-of-lt}
-use lib.Dec.{ltb, eqb, lit≤}
+use lib.Dec.{ltb, leb, eqb}
 use lib.ListN.{length}
-use borrow.Author.Tests.{ltb-true, ltb-false, lt-ltb, eq-eqb}
-use lib.Ieee.{Float, binary64, add, sub, lt}
+use borrow.Author.Tests.{ltb-true, leb-true, lt-ltb, eq-eqb}
+use lib.Ieee.{binary64, sub, lt, le}
 use Rattle.enclosure.specs.Units.{ofNat}
-use Rattle.enclosure.specs.Whole.{plus-whole, minus-whole, less-whole}
+use Rattle.enclosure.specs.Whole.{plus-whole, minus-whole, less-whole, most-whole}
 use Rattle.network.specs.declared.Amperes.{Amperes}
 use Rattle.network.specs.declared.Verdict.{Verdict}
 use Rattle.network.specs.declared.Verdict.the-variants.{Within, Over, Close}
@@ -30,12 +30,12 @@ over-or p q v w hp hq e =
     (λ t. rw t e))
 
 within-or : (u r : ℕ) → u ≤ 2 ^ 53 → r ≤ 2 ^ 53
-    → cond (lt (ofNat r) (ofNat u)) Close (Within (sub binary64 (ofNat r) (ofNat u))) ≡ cond (ltb r u) Close (Within (ofNat (r - u)))
+    → cond (le (ofNat u) (ofNat r)) (Within (sub binary64 (ofNat r) (ofNat u))) Close ≡ cond (leb u r) (Within (ofNat (r - u))) Close
 within-or u r hu hr =
-    rw (less-whole r u hr hu)
-    (by-test (ltb r u)
-    (λ t. rw t)
-    (λ t. rw t (ap Within (minus-whole r u hr (ltb-false r u t)))))
+    rw (most-whole u r hu hr)
+    (by-test (leb u r)
+    (λ t. rw t (ap Within (minus-whole r u hr (leb-true u r t))))
+    (λ t. rw t))
 
 -- THE VERDICT on whole amperes
 pub verdict-whole : (a : Amperes) (f : Figures) → Whole a f → (rating peakRating : ℕ) → rating ≤ 2 ^ 53 → peakRating ≤ 2 ^ 53

@@ -1,19 +1,21 @@
--- Document 01's worked network of two buses, by computing the definitions; and what follows for its verdict from demand 3 alone.
+-- Document 01's worked network of two buses, by computing the definitions; its verdict follows from demand 3 alone.
 -- Assumes nothing.
 use Prim.Native.Nat.{ℕ, zero, suc, _+_, _*_, _≤_, _<_}
-use mathlib.Core.Path.{_≡_, refl}
-use mathlib.Core.Bool.{Bool, true, false}
+use mathlib.Core.Path.{_≡_, refl, sym, ap, subst, _∙_}
+use mathlib.Core.Bool.{true}
 use mathlib.Core.List.{List, [], _∷_}
 use native.Mathlib.Omega.{arith}
 use native.Mathlib.Nat.{lt-of-not-le, le-dest}
-use lib.Dec.{T, eqb, eqb→eq, leb, leb→le, le→leb, ltb, ltb→lt}
-use borrow.Author.Tests.{lt-ltb, le-ltb}
+use lib.Dec.{eqb→eq, leb→le, le→leb, ltb→lt, lit<, lit≤}
+use lib.ListN.{length}
+use borrow.Author.Tests.{le-ltb, lt-leb}
 use Rattle.algebra.specs.Reading.{from, read, _⊹_, _⋆_}
 use Rattle.enclosure.specs.Point.{Point, inverse}
 use Rattle.enclosure.specs.Root.{rootOf, rootUp, below-of-squares}
 use Rattle.elements.specs.Exponential.{tOver, tUnder, over, under}
 use Rattle.elements.specs.Peak.{PeakBound, peakOver, peakUnder, crest}
 use Rattle.elements.specs.Factors.{factorC, sineOf, uxOf, splitOf}
+use Rattle.elements.specs.Worked as factors
 use Rattle.elements.specs.Impedance.{line, transformer, split, feeder, motor, generator, converter}
 use Rattle.tree.specs.Walk.{joined, near}
 use Rattle.tree.specs.Grid.{through, seen}
@@ -27,7 +29,11 @@ use Rattle.network.specs.Records.{branchOk, fieldsOk}
 use Rattle.network.specs.Grounds.{depthOk, busRecordNumber, busNumber, afterBus, sourceRecordNumber, sourceNumber, afterSource, closeNumber, afterClose}
 use Rattle.network.specs.Calls.{Call, starting, addingBus, addingSource, closing, run}
 use Rattle.network.specs.Grid.{branchOf, aboveOf, belowOf, impedanceOf, impedanceAt, convertersAt}
-use Rattle.network.specs.Demand.{Figures, NotAbove, NotBelow, driving, MachinesHold, ConvertersHold}
+use Rattle.network.specs.Demand.{Figures, NotAbove, NotBelow, driving, MachinesHold, ConvertersHold, Demand}
+use Rattle.network.specs.Rounded.{amperesAt}
+use Rattle.network.specs.Query.{verdictGiven}
+use Rattle.network.specs.Claim.{claim}
+use Rattle.network.specs.VerdictLaw.{query-accepted, verdict-given, verdict-whole}
 
 -- "Bus 0 at 10,000 V, feeder 100,000 kVA, ρ 0; bus 1 over a line r 0, x 1,000, 1,100 m, 1 circuit; at bus 1 a generator 10,000 V,
 -- 10,000 kVA, xd 20,000, ρ 0, power factor 100", "a converter of 1,000 tenths, k 200, at bus 1"; "rating 7,898 with ample peak rating"
@@ -49,13 +55,15 @@ solar = record { kind = 4; bus = 1; f1 = 1000; f2 = 200; f3 = 0; f4 = 0; f5 = 0 
 abbrev two : Network
 two = record { tolerance = 10; closed = true; buses = first ∷ second ∷ []; sources = infeed ∷ machine ∷ solar ∷ [] }
 
+abbrev twoCalls : List Call
+twoCalls = starting 10 ∷ addingBus first ∷ addingBus second ∷ addingSource infeed ∷ addingSource machine ∷ addingSource solar ∷ closing ∷ []
+
 -- the calls that make it are accepted
-pub two-made : run (starting 10 ∷ addingBus first ∷ addingBus second ∷ addingSource infeed ∷ addingSource machine ∷ addingSource solar ∷ closing ∷ []) ≡ two
+two-made : run twoCalls ≡ two
 unfolding run afterBus busNumber busRecordNumber branchOk depthOk along afterSource sourceNumber sourceRecordNumber fieldsOk afterClose closeNumber
 two-made = refl
 
--- "Z is 0.825 Ω at bus 0 and 1.1 Ω at bus 1."
-pub impedances : (impedanceAt two 0 .re ≡ 0) × (1000 * impedanceAt two 0 .im ≡ 825 * impedanceAt two 0 .den) × (impedanceAt two 1 .re ≡ 0) × (10 * impedanceAt two 1 .im ≡ 11 * impedanceAt two 1 .den)
+impedances : (impedanceAt two 0 .re ≡ 0) × (1000 * impedanceAt two 0 .im ≡ 825 * impedanceAt two 0 .den) × (impedanceAt two 1 .re ≡ 0) × (10 * impedanceAt two 1 .im ≡ 11 * impedanceAt two 1 .den)
 unfolding seen through joined near inverse branchOf aboveOf belowOf impedanceOf line feeder split generator splitOf rootOf sineOf rootUp factorC
 impedances = (
   eqb→eq (impedanceAt two 0 .re) 0 tt,
@@ -64,17 +72,15 @@ impedances = (
   eqb→eq (10 * impedanceAt two 1 .im) (11 * impedanceAt two 1 .den) tt,
 )
 
--- "I at bus 0 is between 7,698 and 7,699."
-pub current : NotAbove (driving two 0) (impedanceAt two 0) 7698 × NotBelow (driving two 0) (impedanceAt two 0) 7699
+current : NotAbove (driving two 0) (impedanceAt two 0) 7698 × NotBelow (driving two 0) (impedanceAt two 0) 7699
 unfolding seen through joined near inverse branchOf aboveOf belowOf impedanceOf line feeder split generator splitOf rootOf sineOf rootUp factorC
 current = (leb→le _ _ tt, leb→le _ _ tt)
 
--- "200 A more"
-pub converters : convertersAt two 0 .re ≡ 200 * convertersAt two 0 .den
+converters : convertersAt two 0 .re ≡ 200 * convertersAt two 0 .den
 unfolding carriedWithout across joined near aboveOf belowOf converter
 converters = eqb→eq (convertersAt two 0 .re) (200 * convertersAt two 0 .den) tt
 
--- ---- "rating 7,898 with ample peak rating gives C", whichever bounds are given inside demand 3
+-- ---- the verdict at bus 0 is close, whichever bounds are given inside demand 3
 below-next : (x n l k : ℕ) → 30000 * (l * l) * n ≤ x → x < 30000 * (k * k) * n → l < k
 below-next x n l k h g = below-of-squares l k (lt-of-not-le (λ (q : k * k ≤ l * l). absurd (le→leb 1 0 (from (x ∷ n ∷ l ∷ k ∷ []) (h ⊹ g ⊹ 30000 * n ⋆ q) (search read depth 40 fits 20000) refl))))
 
@@ -115,10 +121,35 @@ module _ (f : Figures) (m : MachinesHold (driving two 0) (impedanceAt two 0) (f 
   unfolding carriedWithout across joined near aboveOf belowOf converter
   converters-peak = peak-few (f .«converters_peak») _ _ (c .crest) (ltb→lt _ _ tt)
 
-  pub close : verdictOn (f .lower + f .«converters_lower») (f .upper + f .«converters_upper») (f .peak + f .«converters_peak») 7898 3000000 ≡ Close
+  close : verdictOn (f .lower + f .«converters_lower») (f .upper + f .«converters_upper») (f .peak + f .«converters_peak») 7898 3000000 ≡ Close
   close =
       rw (
         le-ltb 3000000 (f .peak + f .«converters_peak») (omega (arith, peak-most, converters-peak)),
         le-ltb 7898 (f .lower + f .«converters_lower») (omega (arith, lower-most, converters-lower)),
-        lt-ltb 7898 (f .upper + f .«converters_upper») (omega (arith, upper-least, converters-upper)),
+        lt-leb (f .upper + f .«converters_upper») 7898 (omega (arith, upper-least, converters-upper)),
       )
+
+-- and so by the bounds that a query gives
+two-close : verdictGiven two 0 ≡ Close
+two-close =
+    let l : 0 < length (run twoCalls .buses) = subst (λ (n : Network). 0 < length (n .buses)) (sym two-made) (lit< tt) in
+    let d : Demand two 0 (amperesAt two 0) = subst (λ (n : Network). Demand n 0 (amperesAt n 0)) two-made (claim twoCalls (ap (λ (n : Network). n .closed) two-made) 0 l) in
+    verdict-given two 0 (query-accepted two 0 refl (lit< tt))
+    ∙ verdict-whole (amperesAt two 0) (d .figures) (d .whole) 7898 3000000 (lit≤ tt) (lit≤ tt)
+    ∙ close (d .figures) (d .machines) (d .converters)
+
+-- DOCUMENT 01'S STARRED POINTS, as one table
+pub record Starred : Type 0 where
+  pub factors : factors.Starred
+  pub made : run twoCalls ≡ two
+  -- "Z is 0.825 Ω at bus 0 and 1.1 Ω at bus 1."
+  pub impedances : (impedanceAt two 0 .re ≡ 0) × (1000 * impedanceAt two 0 .im ≡ 825 * impedanceAt two 0 .den) × (impedanceAt two 1 .re ≡ 0) × (10 * impedanceAt two 1 .im ≡ 11 * impedanceAt two 1 .den)
+  -- "I at bus 0 is between 7,698 and 7,699."
+  pub current : NotAbove (driving two 0) (impedanceAt two 0) 7698 × NotBelow (driving two 0) (impedanceAt two 0) 7699
+  -- "200 A more"
+  pub converters : convertersAt two 0 .re ≡ 200 * convertersAt two 0 .den
+  -- "rating 7,898 with ample peak rating gives C"
+  pub verdict : verdictGiven two 0 ≡ Close
+
+pub starred : Starred
+starred = record { factors = factors.starred; made = two-made; impedances = impedances; current = current; converters = converters; verdict = two-close }

@@ -23,6 +23,7 @@ use enclosure::amperes::Peak;
 use enclosure::amperes::Rms;
 use enclosure::amperes::add_peak;
 use enclosure::amperes::add_rms;
+use enclosure::amperes::at_most_rms;
 use enclosure::amperes::exceeds_peak;
 use enclosure::amperes::exceeds_rms;
 use enclosure::amperes::excess_peak;
@@ -313,10 +314,10 @@ pub fn verdict_of(a: Amperes, rating: Rms, peak_rating: Peak) -> Verdict
     if above_rating {
         return Verdict::Over(excess_rms(lower, rating));
     }
-    if exceeds_rms(upper, rating) {
-        return Verdict::Close;
+    if at_most_rms(upper, rating) {
+        return Verdict::Within(excess_rms(rating, upper));
     }
-    Verdict::Within(excess_rms(rating, upper))
+    Verdict::Close
 }
 
 // A refused query.

@@ -1,4 +1,5 @@
 use mathlib.Core.Path.{refl}
+use Prim.Native.Nat.{zero-le}
 use Rattle.network.proofs.Whole.{rms-whole, peak-whole}
 use borrow.Author.Needs.{needs}
 use Rattle.network.proofs.refused.Statement.{statement}
@@ -12,7 +13,7 @@ peak-of-requires c κs = search needs
 
 returns : tie.Need-returns
 returns c =
-    (refl, (rw (rms-whole (c .before .rms-of .ensures) (refl {a = 0}), peak-whole (c .peak-of .ensures) (refl {a = 0})), refl))
+    (refl, (rw (rms-whole (c .before .rms-of .ensures) (refl {a = 0}) zero-le, peak-whole (c .peak-of .ensures) (refl {a = 0}) zero-le), refl))
 
 pub refused-spec : {M : Type 1} → statement M
 refused-spec = tie.close (tie.spec rms-of-requires peak-of-requires returns)

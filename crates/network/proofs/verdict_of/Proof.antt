@@ -1,6 +1,6 @@
 use mathlib.Core.Path.{_≡_, sym, _∙_}
 use mathlib.Core.Bool.{true, false}
-use lib.Ieee.{lt}
+use lib.Ieee.{lt, le}
 use Rattle.network.specs.Verdict.{verdictOf}
 use borrow.Author.Needs.{needs}
 use Rattle.network.proofs.verdict_of.Statement.{statement}
@@ -27,8 +27,8 @@ excess-peak-requires c κs = search needs
 excess-rms-requires : tie.Need-excess-rms-requires
 excess-rms-requires c κs = search needs
 
-exceeds-rms-requires-2 : tie.Need-exceeds-rms-requires-2
-exceeds-rms-requires-2 c κs = search needs
+at-most-rms-requires : tie.Need-at-most-rms-requires
+at-most-rms-requires c κs = search needs
 
 excess-rms-requires-2 : tie.Need-excess-rms-requires-2
 excess-rms-requires-2 c κs = search needs
@@ -62,22 +62,22 @@ returns-2 c =
 returns-3 : tie.Need-returns-3
 unfolding verdictOf
 returns-3 c =
-    let t = c .before .before .before .before in
-    let e = peak-within t (c .before .before .before .if1 .left) in
-    let g = lower-within t (c .before .before .if2 .left) in
-    let u = t .before .before .before .add-rms2 in
-    let h : lt (t .before .before .before .before .before .args .rating .0) (u .result .0) ≡ true = sym (c .before .exceeds-rms2 .ensures) ∙ c .if3 .taken in
-    rw (← t .before .before .add-peak .ensures, e, ← t .before .before .before .before .add-rms .ensures, g, ← u .ensures, h)
-
-returns-4 : tie.Need-returns-4
-unfolding verdictOf
-returns-4 c =
     let t = c .before .before .before .before .before in
     let e = peak-within t (c .before .before .before .before .if1 .left) in
     let g = lower-within t (c .before .before .before .if2 .left) in
     let u = t .before .before .before .add-rms2 in
-    let h : lt (t .before .before .before .before .before .args .rating .0) (u .result .0) ≡ false = sym (c .before .before .exceeds-rms2 .ensures) ∙ c .before .if3 .left in
+    let h : le (u .result .0) (t .before .before .before .before .before .args .rating .0) ≡ true = sym (c .before .before .at-most-rms .ensures) ∙ c .before .if3 .taken in
     rw (← t .before .before .add-peak .ensures, e, ← t .before .before .before .before .add-rms .ensures, g, ← u .ensures, h, c .excess-rms2 .ensures)
+
+returns-4 : tie.Need-returns-4
+unfolding verdictOf
+returns-4 c =
+    let t = c .before .before .before .before in
+    let e = peak-within t (c .before .before .before .if1 .left) in
+    let g = lower-within t (c .before .before .if2 .left) in
+    let u = t .before .before .before .add-rms2 in
+    let h : le (u .result .0) (t .before .before .before .before .before .args .rating .0) ≡ false = sym (c .before .at-most-rms .ensures) ∙ c .if3 .left in
+    rw (← t .before .before .add-peak .ensures, e, ← t .before .before .before .before .add-rms .ensures, g, ← u .ensures, h)
 
 pub verdict-of-spec : {M : Type 1} → statement M
 verdict-of-spec =
@@ -92,7 +92,7 @@ verdict-of-spec =
     returns
     excess-rms-requires
     returns-2
-    exceeds-rms-requires-2
-    returns-3
+    at-most-rms-requires
     excess-rms-requires-2
+    returns-3
     returns-4)

@@ -1,14 +1,20 @@
 -- `enclosure::amperes::whole` meets its contract: the cast loses nothing. Assumes nothing.
+use mathlib.Core.Path.{ap}
+use native.Mathlib.Omega.{arith}
 use borrow.Author.Needs.{needs}
+use Rattle.enclosure.specs.Units.{ofNat}
 use Rattle.enclosure.specs.Whole.{castable}
 use Rattle.enclosure.proofs.amperes.whole.Statement.{statement}
 use Rattle.enclosure.proofs.amperes.whole.Tie as tie
 
+capped-requires : tie.Need-capped-requires
+capped-requires c κs = search needs
+
 int-to-float-result : tie.Need-int-to-float-result
-int-to-float-result c = castable (c .before .args .n) (c .before .pre)
+int-to-float-result c = castable _ (omega (arith, c .before .capped .ensures))
 
 returns : tie.Need-returns
-returns c = search needs
+returns c = ap ofNat (c .before .capped .ensures)
 
 pub whole-spec : {M : Type 1} → statement M
-whole-spec = tie.close (tie.spec int-to-float-result returns)
+whole-spec = tie.close (tie.spec capped-requires int-to-float-result returns)
