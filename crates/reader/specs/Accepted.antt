@@ -1,15 +1,18 @@
 -- What reading a text leaves, as calls on a study: so whatever is proved of lists of calls holds of texts.
-use mathlib.Core.Path.{_≡_, refl, ap, _∙_}
+use mathlib.Core.Path.{_≡_, refl, sym, ap, subst, _∙_}
 use mathlib.Core.Bool.{true}
 use mathlib.Core.List.{List, [], _∷_, _++_}
-use Prim.Native.Nat.{ℕ, _+_}
+use Prim.Native.Nat.{ℕ, _+_, _<_}
 use borrow.Author.Tests.{eqb-false}
 use lib.Dec.{eqb}
 use lib.ListN.{length}
 use Rattle.network.specs.Records.{within}
 use Rattle.network.specs.Network.{Network}
 use Rattle.network.specs.Grounds.{closeNumber, afterClose}
-use Rattle.network.specs.Calls.{Call, starting, addingBus, addingSource, closing, runFrom, emptyNetwork, run}
+use Rattle.network.specs.declared.Found.{Found}
+use Rattle.network.specs.Calls.{Call, starting, addingBus, addingSource, closing, runFrom, run-append, emptyNetwork, run}
+use Rattle.network.specs.Query.{queryNumber, amperesGiven, verdictGiven}
+use Rattle.network.specs.Promise.{Kept, promised}
 use Rattle.network.specs.Tests.{by-test}
 use Rattle.reader.specs.declared.Row.{Row}
 use Rattle.reader.specs.declared.Row.the-variants.{Start, WithBus, WithSource, Malformed}
@@ -75,6 +78,19 @@ module _ (text : List ℕ) (e : readOf text .number ≡ 0) where
 
   pub read-closed : readOf text .network .closed ≡ true
   read-closed = ap (λ (n : Network). n .closed) (good .1) ∙ good .2
+
+  -- whatever calls follow, the study is one that calls make
+  pub read-then : (cs : List Call) → runFrom (readOf text .network) cs ≡ run (calls text ++ cs)
+  unfolding run
+  read-then cs = rw read-run (sym (run-append emptyNetwork (calls text) cs))
+
+  -- FROM THE BYTES TO THE AMPERES: what a query gives of the study that an accepted text leaves, at any bus of it, meets demand 3 for
+  -- the network of the text's rows, with its verdict and the sameness of the machines' figures
+  pub read-kept : (b : ℕ) → b < length (readOf text .network .buses) → (f : Found)
+      → f .number ≡ queryNumber (readOf text .network) b → f .amperes ≡ amperesGiven (readOf text .network) b → f .verdict ≡ verdictGiven (readOf text .network) b → Kept (calls text) b f
+  read-kept b l f p q v =
+      promised (readOf text .network) b f p q v (calls text) read-run (subst (λ (n : Network). n .closed ≡ true) read-run read-closed)
+      (subst (λ (n : Network). b < length (n .buses)) read-run l)
 
 -- ---- refused
 from-refused : (i : ℕ) (n : Network) (rs : List (List ℕ)) → (readFrom i n rs .number ≡ 0 → ⊥) → readFrom i n rs .network ≡ emptyNetwork
