@@ -3,7 +3,7 @@ ghost use Prim.Native.Nat.{_+_, _≤_};
 ghost use lib.ListN.{length, drop};
 ghost use Rattle.reader.specs.File.{fields, lengthOk, valueOf, numberOf};
 ghost use Rattle.reader.specs.Stretches.{atComma, before, stretch};
-ghost use Rattle.reader.specs.Gathered.{Gathered};
+ghost use Rattle.reader.specs.Gathered.{gathered};
 use crate::BUS_FIELDS;
 use crate::Number;
 use crate::Numbers;
@@ -90,7 +90,7 @@ pub fn number_of(field: &[u8]) -> Number
 
 // The numbers of a row's fields, in order. Not ok where a field is no number or where there are more than a bus has.
 pub fn numbers_of(row: &[u8]) -> Numbers
-    ensures { λ r. ⌜ Gathered (fields (now (row .entry))) r ⌝ }
+    ensures { λ r. ⌜ r ≡ gathered (fields (now (row .entry))) ⌝ }
 {
     let mut values = [0u32; BUS_FIELDS];
     let mut count: usize = 0;

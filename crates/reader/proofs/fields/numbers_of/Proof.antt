@@ -1,4 +1,4 @@
-use mathlib.Core.Path.{refl, sym, _∙_}
+use mathlib.Core.Path.{sym, _∙_}
 use Prim.Native.Nat.{_+_, _-_}
 use native.Mathlib.Omega.{arith}
 use borrow.Author.Needs.{needs}
@@ -14,7 +14,7 @@ abbrev μ-loop : tie.MeasureT-loop
 μ-loop row values₀ count₀ at₀ values count at = length row + 1 - at
 
 loop-holds : tie.Need-loop-holds Inv-loop μ-loop
-loop-holds c = begun (c .before .args .row .now) _ refl
+loop-holds c = begun (c .before .args .row .now)
 
 field-requires : tie.Need-field-requires Inv-loop μ-loop
 field-requires c κs = search needs
@@ -40,7 +40,9 @@ returns c =
     broken (c .before .before .before .before .before .loop .inv) (c .before .before .before .before .loop-test .taken) (c .before .before .before .field .result .now) (c .before .before .before .field .ensures) n
 
 returns-2 : tie.Need-returns-2 Inv-loop μ-loop
-returns-2 c = full (c .before .before .before .before .before .before .before .loop .inv) (c .before .before .before .before .before .before .loop-test .taken) (c .before .before .before .before .before .field .result .now) (c .before .before .before .before .before .field .ensures) (c .if1 .taken)
+returns-2 c =
+    let n = sym (c .before .before .before .before .number-of .ensures) ∙ c .before .before .number .given .1 in
+    full (c .before .before .before .before .before .before .before .loop .inv) (c .before .before .before .before .before .before .loop-test .taken) (c .before .before .before .before .before .field .result .now) (c .before .before .before .before .before .field .ensures) _ n (c .if1 .taken)
 
 mul-values : tie.Need-mul-values Inv-loop μ-loop
 mul-values c = search needs

@@ -4,7 +4,7 @@ use native.Mathlib.Omega.{arith}
 use borrow.Author.Needs.{needs}
 use lib.ListN.{length, drop, length-drop}
 use lib.Seq.{take-all}
-use Rattle.reader.specs.Gathered.{Gathered}
+use Rattle.reader.specs.Gathered.{Gathered, gathered-law}
 use Rattle.reader.specs.File.{fields}
 use Rattle.reader.proofs.Records.{fields-taken, fields-broken, row-short, row-other, row-fields}
 use Rattle.reader.proofs.rows.row_of.Statement.{statement}
@@ -14,7 +14,8 @@ use Rattle.reader.proofs.rows.row_of.Tie as tie
 gathered : (c : tie.After-numbers-of) → Gathered (fields (drop 2 (c .before .before .before .before .before .before .args .row .now))) (c .numbers-of .result)
 gathered c =
     let l = c .before .before .before .before .before .before .args .row .now in
-    rw (take-all (length l - 2) (drop 2 l) (omega (arith, length-drop 2 l))) at (c .numbers-of .ensures)
+    let e = rw (take-all (length l - 2) (drop 2 l) (omega (arith, length-drop 2 l))) at (c .numbers-of .ensures) in
+    rw e (gathered-law (fields (drop 2 l)))
 
 returns : tie.Need-returns
 returns c = let a = c .before .before .args in sym (row-short (a .first) (a .row .now) (c .if1 .taken))
@@ -41,7 +42,7 @@ shared-slice-read-record-of : tie.Need-shared-slice-read-record-of
 shared-slice-read-record-of c = search needs
 
 record-of-requires : tie.Need-record-of-requires
-record-of-requires c κs = c .before .before .numbers-of .ensures .few
+record-of-requires c κs = gathered (c .before .before) .few
 
 returns-3 : tie.Need-returns-3
 returns-3 c =
