@@ -21,7 +21,8 @@ STATEMENT = ("Inv-", "μ-", "requires-", "ensures-")
 MISFIT = re.compile(
     r"can be named from here|not in scope|no constructor `|not a constructor|operand is missing|operators of one level"
     r"|has no field|projects from a record|not a record type|needs a function|applied to an argument but|does not define it")
-NEED_FOR_NEED = re.compile(r"but this has type `[\w.]*\bNeed-")
+# Errors of a proof that answers another need, or that speaks of another point of the code than the one it stands for.
+ELSEWHERE = re.compile(r"but this has type `(?:[\w.]*\bNeed-|[^`\s]*\.Lts\.(?:After|Else|Then)\b)")
 PROVED = re.compile(r"^logic=proved ", re.M)
 
 
@@ -42,7 +43,7 @@ def judge(log):
         return None if searched else "refused, and the log names no fact that fails"
     first = errors[0].splitlines()[0]
     name = ERROR.match(first)[1]
-    if name and not name.startswith(STATEMENT) and not MISFIT.search(first) and not NEED_FOR_NEED.search(errors[0]):
+    if name and not name.startswith(STATEMENT) and not MISFIT.search(first) and not ELSEWHERE.search(errors[0]):
         return None
     return "refused only for its shape: " + re.sub(r"^.*?/(?=(src|specs|proofs)/)", "", first)[:240]
 
@@ -151,10 +152,11 @@ def try_crate(name, edits):
 
 
 def quick_refusals():
-    """Tries the edits of every must-fail/quick/, two crates at a time, the highest crates first since they take longest."""
+    """Tries the edits of every must-fail/quick/, a crate to a processor, up to four; crates with many edits first."""
     groups = {}
     for edit in sorted(Path("crates").glob("*/must-fail/quick/*")):
         groups.setdefault(edit.parts[1], []).append(edit)
+    names = sorted(groups, key=lambda name: -len(groups[name]))
     with ThreadPoolExecutor(max(1, min(4, os.cpu_count() or 1))) as pool:
-        results = list(pool.map(try_crate, groups, groups.values()))
+        results = list(pool.map(try_crate, names, [groups[name] for name in names]))
     return counted([pair for result in results for pair in result])
