@@ -17,10 +17,10 @@ use Rattle.enclosure.specs.Exactly.{add-at}
 use Rattle.enclosure.specs.Units.{ofNat, exact}
 
 -- a whole number as f64, 2 ^ 53 for any more: past that f64 has not every whole number
-abbrev pub wholeOf : ℕ → Float
-wholeOf n = ofNat (min n (2 ^ 53))
+abbrev pub ofWhole : ℕ → Float
+ofWhole n = ofNat (min n (2 ^ 53))
 
-pub whole-few : (n : ℕ) → n ≤ 2 ^ 53 → wholeOf n ≡ ofNat n
+pub whole-few : (n : ℕ) → n ≤ 2 ^ 53 → ofWhole n ≡ ofNat n
 whole-few n h = ap ofNat (omega arith)
 
 -- what a cast asks

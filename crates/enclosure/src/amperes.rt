@@ -3,7 +3,7 @@
 ghost use mathlib.Core.Path.{_≡_};
 ghost use Prim.Native.Nat.{_^_, min};
 ghost use lib.Ieee.{binary64, add, sub, lt, le};
-ghost use Rattle.enclosure.specs.Whole.{wholeOf};
+ghost use Rattle.enclosure.specs.Whole.{ofWhole};
 
 // Root-mean-square amperes.
 pub struct Rms(pub f64);
@@ -24,19 +24,19 @@ fn capped(n: u64) -> u64
 
 // A whole number as f64, nothing lost; 2^53 for any more.
 fn whole(n: u64) -> f64
-    ensures { λ r. ⌜ r ≡ wholeOf n ⌝ }
+    ensures { λ r. ⌜ r ≡ ofWhole n ⌝ }
 {
     capped(n) as f64
 }
 
 pub fn rms_of(n: u64) -> Rms
-    ensures { λ r. ⌜ r .0 ≡ wholeOf n ⌝ }
+    ensures { λ r. ⌜ r .0 ≡ ofWhole n ⌝ }
 {
     Rms(whole(n))
 }
 
 pub fn peak_of(n: u64) -> Peak
-    ensures { λ r. ⌜ r .0 ≡ wholeOf n ⌝ }
+    ensures { λ r. ⌜ r .0 ≡ ofWhole n ⌝ }
 {
     Peak(whole(n))
 }
