@@ -1,4 +1,10 @@
-// The lines that answer a call.
+// The lines that answer a call. Each is put at the start of a line, and then written.
+ghost use mathlib.Core.Path.{_≡_};
+ghost use Prim.Native.Nat.{_≤_};
+ghost use lib.ListN.{length, take};
+ghost use Rattle.printing.specs.Line.{room};
+ghost use Rattle.console.specs.Answers.{errorLine, numberLine, readingLine, foundLine};
+use libc::STDOUT_FILENO;
 use network::Found;
 use printing::LINE;
 use printing::amount;
@@ -8,42 +14,69 @@ use printing::put_amperes;
 use printing::put_letter;
 use printing::put_next;
 use printing::put_number;
-use printing::send;
+use printing::written;
 
-fn wide(x: u32) -> u64 {
-    x as u64
+fn put_error(line: &mut [u8; LINE], reason: &[u8]) -> usize
+    requires { ⌜ length (now line) ≡ room ⌝ }
+    requires { ⌜ length (now reason) ≤ 200 ⌝ }
+    ensures { λ r. ⌜ take r (now (line .exit)) ≡ errorLine (now (reason .entry)) ⌝ }
+{
+    let word = put(line, 0, b"error,");
+    let at = put(line, word, reason);
+    put(line, at, b"\n")
 }
 
-pub fn print_error(reason: &[u8]) {
-    let mut line = [0u8; LINE];
-    let word = put(&mut line, 0, b"error,");
-    let at = put(&mut line, word, reason);
-    let end = put(&mut line, at, b"\n");
-    send(&line, end);
+fn put_ground(line: &mut [u8; LINE], number: u32) -> usize
+    requires { ⌜ length (now line) ≡ room ⌝ }
+    ensures { λ r. ⌜ take r (now (line .exit)) ≡ numberLine number ⌝ }
+{
+    let at = put_number(line, 0, number as u64);
+    put(line, at, b"\n")
 }
 
-pub fn print_number(number: u32) {
-    let mut line = [0u8; LINE];
-    let at = put_number(&mut line, 0, wide(number));
-    let end = put(&mut line, at, b"\n");
-    send(&line, end);
+fn put_reading(line: &mut [u8; LINE], number: u32, row: u32) -> usize
+    requires { ⌜ length (now line) ≡ room ⌝ }
+    ensures { λ r. ⌜ take r (now (line .exit)) ≡ readingLine number row ⌝ }
+{
+    let ground = put_number(line, 0, number as u64);
+    let at = put_next(line, ground, row as u64);
+    put(line, at, b"\n")
 }
 
-pub fn print_reading(number: u32, row: u32) {
-    let mut line = [0u8; LINE];
-    let ground = put_number(&mut line, 0, wide(number));
-    let at = put_next(&mut line, ground, wide(row));
-    let end = put(&mut line, at, b"\n");
-    send(&line, end);
-}
-
-pub fn print_found(found: Found) {
+fn put_found(line: &mut [u8; LINE], found: Found) -> usize
+    requires { ⌜ length (now line) ≡ room ⌝ }
+    ensures { λ r. ⌜ take r (now (line .exit)) ≡ foundLine found ⌝ }
+{
     let verdict = found.verdict;
+    let ground = put_number(line, 0, found.number as u64);
+    let amperes = put_amperes(line, ground, found.amperes);
+    let letter = put_letter(line, amperes, verdict);
+    let at = put_next(line, letter, number_of(amount(verdict)));
+    put(line, at, b"\n")
+}
+
+pub(crate) fn print_error(reason: &[u8])
+    requires { ⌜ length (now reason) ≤ 200 ⌝ }
+{
     let mut line = [0u8; LINE];
-    let ground = put_number(&mut line, 0, wide(found.number));
-    let amperes = put_amperes(&mut line, ground, found.amperes);
-    let letter = put_letter(&mut line, amperes, verdict);
-    let at = put_next(&mut line, letter, number_of(amount(verdict)));
-    let end = put(&mut line, at, b"\n");
-    send(&line, end);
+    let end = put_error(&mut line, reason);
+    io::write_all(STDOUT_FILENO, written(&line, end));
+}
+
+pub(crate) fn print_number(number: u32) {
+    let mut line = [0u8; LINE];
+    let end = put_ground(&mut line, number);
+    io::write_all(STDOUT_FILENO, written(&line, end));
+}
+
+pub(crate) fn print_reading(number: u32, row: u32) {
+    let mut line = [0u8; LINE];
+    let end = put_reading(&mut line, number, row);
+    io::write_all(STDOUT_FILENO, written(&line, end));
+}
+
+pub(crate) fn print_found(found: Found) {
+    let mut line = [0u8; LINE];
+    let end = put_found(&mut line, found);
+    io::write_all(STDOUT_FILENO, written(&line, end));
 }

@@ -115,7 +115,7 @@ fn make_read(s: Study, rest: &[u8], text: &mut [u8; TEXT]) -> Study {
 }
 
 // The study after the call that a line names.
-pub fn make_call(s: Study, line: &[u8], text: &mut [u8; TEXT]) -> Study {
+pub(crate) fn make_call(s: Study, line: &[u8], text: &mut [u8; TEXT]) -> Study {
     if begins(line, b"start,") {
         return make_start(s, after(line, 6));
     }

@@ -3,10 +3,10 @@
 use crate::input::part;
 
 // Room for the text of the longest line.
-pub const TEXT: usize = 70_000;
+pub(crate) const TEXT: usize = 70_000;
 
 // How many bytes the digits give, unless they are not pairs of hexadecimal digits.
-pub enum Decoded {
+pub(crate) enum Decoded {
     Bytes(usize),
     Broken,
 }
@@ -45,7 +45,7 @@ fn pair(high: u8, low: u8) -> u8 {
 }
 
 // Puts the bytes of the digits into the text.
-pub fn decode(digits: &[u8], text: &mut [u8; TEXT]) -> Decoded {
+pub(crate) fn decode(digits: &[u8], text: &mut [u8; TEXT]) -> Decoded {
     let n = digits.len() / 2;
     if n + n != digits.len() {
         return Decoded::Broken;
@@ -67,6 +67,6 @@ pub fn decode(digits: &[u8], text: &mut [u8; TEXT]) -> Decoded {
 }
 
 // The bytes of the text.
-pub fn text_of(text: &[u8; TEXT], length: usize) -> &[u8] {
+pub(crate) fn text_of(text: &[u8; TEXT], length: usize) -> &[u8] {
     part(text, length)
 }

@@ -1,13 +1,13 @@
 // Lines of standard input, by way of a chunk of its bytes.
 use libc::STDIN_FILENO;
 
-pub const CHUNK: usize = 4096;
+pub(crate) const CHUNK: usize = 4096;
 
 // Room for the longest line, the CR of its end and one byte more, by which a longer line is seen to be longer.
-pub const LINE_ROOM: usize = 140_002;
+pub(crate) const LINE_ROOM: usize = 140_002;
 
 // The bytes of the chunk that are not used yet: from `at` up to `filled`.
-pub struct Cursor {
+pub(crate) struct Cursor {
     pub at: usize,
     pub filled: usize,
 }
@@ -20,7 +20,7 @@ struct Step {
 }
 
 // The bytes of a line, without its end, unless the input ended before it began.
-pub struct Line {
+pub(crate) struct Line {
     pub ended: bool,
     pub length: usize,
     pub cursor: Cursor,
@@ -71,7 +71,11 @@ fn without_return(line: &[u8; LINE_ROOM], length: usize) -> usize {
 }
 
 // Reads up to an LF or the end of the input. Of a line that is longer than the room the first bytes are kept.
-pub fn read_line(chunk: &mut [u8; CHUNK], cursor: Cursor, line: &mut [u8; LINE_ROOM]) -> Line {
+pub(crate) fn read_line(
+    chunk: &mut [u8; CHUNK],
+    cursor: Cursor,
+    line: &mut [u8; LINE_ROOM],
+) -> Line {
     let mut here = cursor;
     let mut length: usize = 0;
     let mut turns = u64::MAX;
@@ -106,7 +110,7 @@ pub fn read_line(chunk: &mut [u8; CHUNK], cursor: Cursor, line: &mut [u8; LINE_R
 }
 
 // The first bytes of a slice.
-pub fn part(bytes: &[u8], length: usize) -> &[u8] {
+pub(crate) fn part(bytes: &[u8], length: usize) -> &[u8] {
     if length <= bytes.len() {
         return &bytes[0..length];
     }
@@ -114,6 +118,6 @@ pub fn part(bytes: &[u8], length: usize) -> &[u8] {
 }
 
 // The bytes of the line.
-pub fn bytes_of(line: &[u8; LINE_ROOM], length: usize) -> &[u8] {
+pub(crate) fn bytes_of(line: &[u8; LINE_ROOM], length: usize) -> &[u8] {
     part(line, length)
 }

@@ -1,6 +1,6 @@
 // The word that a line begins with, and what follows it.
 
-pub fn begins(line: &[u8], word: &[u8]) -> bool {
+pub(crate) fn begins(line: &[u8], word: &[u8]) -> bool {
     if line.len() < word.len() {
         return false;
     }
@@ -14,7 +14,7 @@ pub fn begins(line: &[u8], word: &[u8]) -> bool {
     true
 }
 
-pub fn is(line: &[u8], word: &[u8]) -> bool {
+pub(crate) fn is(line: &[u8], word: &[u8]) -> bool {
     if line.len() == word.len() {
         return begins(line, word);
     }
@@ -22,7 +22,7 @@ pub fn is(line: &[u8], word: &[u8]) -> bool {
 }
 
 // The line from a place on.
-pub fn after(line: &[u8], at: usize) -> &[u8] {
+pub(crate) fn after(line: &[u8], at: usize) -> &[u8] {
     if at <= line.len() {
         return &line[at..];
     }

@@ -1,15 +1,15 @@
 // A line for each operation: its name, its inputs, its result.
 use enclosure::Complex;
 
-pub fn text(s: &[u8]) {
+pub(crate) fn text(s: &[u8]) {
     io::write_all(1, s);
 }
 
-pub fn end() {
+pub(crate) fn end() {
     text(b"\n");
 }
 
-pub fn number(n: u64) {
+pub(crate) fn number(n: u64) {
     text(b" ");
     io::print_decimal(1, n);
 }
@@ -23,7 +23,7 @@ fn pattern(x: f64) -> u64 {
     }
 }
 
-pub fn bits(x: f64) {
+pub(crate) fn bits(x: f64) {
     text(b" ");
     io::print_hex(1, pattern(x), 16);
 }
@@ -40,7 +40,7 @@ fn result(z: Complex) -> Complex {
     z
 }
 
-pub fn pair(name: &[u8], a: u64, b: u64) {
+pub(crate) fn pair(name: &[u8], a: u64, b: u64) {
     text(name);
     number(a);
     number(b);
@@ -54,54 +54,54 @@ fn ratio(name: &[u8], z: Complex, p: u64, q: u64) {
     number(q);
 }
 
-pub fn nothing() {
+pub(crate) fn nothing() {
     text(b"nothing");
     result(enclosure::nothing());
 }
 
-pub fn of(re: u32, im: u32) -> Complex {
+pub(crate) fn of(re: u32, im: u32) -> Complex {
     pair(b"of", re as u64, im as u64);
     result(enclosure::of(re, im))
 }
 
-pub fn add(x: Complex, y: Complex) -> Complex {
+pub(crate) fn add(x: Complex, y: Complex) -> Complex {
     text(b"add");
     point(x);
     point(y);
     result(enclosure::add(x, y))
 }
 
-pub fn is_nothing(z: Complex) {
+pub(crate) fn is_nothing(z: Complex) {
     text(b"is_nothing");
     point(z);
     number(enclosure::is_nothing(z) as u64);
     end();
 }
 
-pub fn inverse(z: Complex) -> Complex {
+pub(crate) fn inverse(z: Complex) -> Complex {
     text(b"inverse");
     point(z);
     result(enclosure::inverse(z))
 }
 
-pub fn scale(z: Complex, p: u32, q: u32) -> Complex {
+pub(crate) fn scale(z: Complex, p: u32, q: u32) -> Complex {
     ratio(b"scale", z, p as u64, q as u64);
     result(enclosure::scale(z, p, q))
 }
 
-pub fn lower(z: Complex, p: u16, q: u16) {
+pub(crate) fn lower(z: Complex, p: u16, q: u16) {
     ratio(b"lower", z, p as u64, q as u64);
     number(enclosure::lower(z, p, q));
     end();
 }
 
-pub fn upper(z: Complex, p: u16, q: u16) {
+pub(crate) fn upper(z: Complex, p: u16, q: u16) {
     ratio(b"upper", z, p as u64, q as u64);
     number(enclosure::upper(z, p, q));
     end();
 }
 
-pub fn enclose(z: Complex, p: u16, q: u16) {
+pub(crate) fn enclose(z: Complex, p: u16, q: u16) {
     ratio(b"enclose", z, p as u64, q as u64);
     let b = enclosure::enclose(z, p, q);
     number(b.lower);

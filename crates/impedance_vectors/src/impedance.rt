@@ -1,10 +1,10 @@
 // The element impedances at the ends of document 01's ranges.
+use crate::words::end;
+use crate::words::field;
+use crate::words::point;
+use crate::words::text;
 use elements::impedances;
 use enclosure::Complex;
-use vectors::end;
-use vectors::field;
-use vectors::point;
-use vectors::text;
 
 // A name and the first four arguments.
 fn begin(name: &[u8], a: u32, b: u32, c: u32, d: u32) {
@@ -192,7 +192,7 @@ fn worked() {
     transformer(10, 690, 20_000, 1_000, 6_000, 1_000);
 }
 
-pub fn all() {
+pub(crate) fn all() {
     lines();
     voltages();
     step_down();

@@ -2,6 +2,7 @@
 // in hexadecimal. tests/check-impedances confirms every line.
 mod impedance;
 mod peak;
+mod words;
 
 fn main() {
     impedance::all();

@@ -1,5 +1,10 @@
 // Places in the peak table and peaks, about the table's steps and from 1 A to 10^13 A.
 ghost use Prim.Native.Nat.{_≤_};
+use crate::words::end;
+use crate::words::field;
+use crate::words::number;
+use crate::words::point;
+use crate::words::text;
 use elements::impedances::feeder;
 use elements::peaks;
 use enclosure::Complex;
@@ -7,11 +12,6 @@ use enclosure::inverse;
 use enclosure::nothing;
 use enclosure::of;
 use enclosure::scale;
-use vectors::end;
-use vectors::field;
-use vectors::number;
-use vectors::point;
-use vectors::text;
 
 fn place(y: Complex) {
     text(b"place");
@@ -129,7 +129,7 @@ fn converter_peaks() {
     converter_peak(of(543_339_720, 0));
 }
 
-pub fn all() {
+pub(crate) fn all() {
     steps();
     ends();
     powers_of_ten();

@@ -1,5 +1,11 @@
 // A study as text on standard input; on standard output a line for each bus, or the number and the row of a refusal.
+ghost use mathlib.Core.Path.{_≡_};
+ghost use lib.ListN.{length, take};
+ghost use Rattle.printing.specs.Line.{room};
+ghost use Rattle.noldveig.specs.Rows.{busRow, refusalRow};
 use libc::STDIN_FILENO;
+use libc::STDOUT_FILENO;
+use network::Found;
 use network::Study;
 use network::bus_total;
 use network::query;
@@ -9,37 +15,48 @@ use printing::put_amperes;
 use printing::put_letter;
 use printing::put_next;
 use printing::put_number;
-use printing::send;
+use printing::written;
 
 // One byte more than a text may have, so that a longer one is seen to be longer.
 const TEXT: usize = 65_537;
-
-fn wide(x: u32) -> u64 {
-    x as u64
-}
 
 fn size(x: u32) -> usize {
     x as usize
 }
 
+// Puts the row of a refusal at the start of the line, and gives its length.
+fn put_refusal(line: &mut [u8; LINE], number: u32, row: u32) -> usize
+    requires { ⌜ length (now line) ≡ room ⌝ }
+    ensures { λ r. ⌜ take r (now (line .exit)) ≡ refusalRow number row ⌝ }
+{
+    let word = put(line, 0, b"refused");
+    let ground = put_next(line, word, number as u64);
+    let place = put_next(line, ground, row as u64);
+    put(line, place, b"\r\n")
+}
+
+// Puts the row of a bus at the start of the line, and gives its length.
+fn put_bus(line: &mut [u8; LINE], bus: u32, found: Found) -> usize
+    requires { ⌜ length (now line) ≡ room ⌝ }
+    ensures { λ r. ⌜ take r (now (line .exit)) ≡ busRow bus (found .amperes) (found .verdict) ⌝ }
+{
+    let verdict = found.verdict;
+    let number = put_number(line, 0, bus as u64);
+    let amperes = put_amperes(line, number, found.amperes);
+    let letter = put_letter(line, amperes, verdict);
+    put(line, letter, b"\r\n")
+}
+
 fn print_refusal(number: u32, row: u32) {
     let mut line = [0u8; LINE];
-    let word = put(&mut line, 0, b"refused");
-    let ground = put_next(&mut line, word, wide(number));
-    let place = put_next(&mut line, ground, wide(row));
-    let end = put(&mut line, place, b"\r\n");
-    send(&line, end);
+    let end = put_refusal(&mut line, number, row);
+    io::write_all(STDOUT_FILENO, written(&line, end));
 }
 
 fn print_bus(s: Study, bus: u32) {
-    let found = query(s, bus);
-    let verdict = found.verdict;
     let mut line = [0u8; LINE];
-    let number = put_number(&mut line, 0, wide(bus));
-    let amperes = put_amperes(&mut line, number, found.amperes);
-    let letter = put_letter(&mut line, amperes, verdict);
-    let end = put(&mut line, letter, b"\r\n");
-    send(&line, end);
+    let end = put_bus(&mut line, bus, query(s, bus));
+    io::write_all(STDOUT_FILENO, written(&line, end));
 }
 
 fn print_buses(s: Study) {

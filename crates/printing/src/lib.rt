@@ -1,8 +1,9 @@
-// Answers as text. A line is put together in an array of the caller's and then written to standard output at once.
+// Answers as text. A line is put together in an array of the caller's, so that a program can write it at once.
 ghost use mathlib.Core.Path.{_≡_};
+ghost use lib.ListN.{take};
 ghost use Rattle.network.specs.Verdict.{letterOf};
-ghost use Rattle.printing.specs.Printed.{wholeOf, amountOf};
-use libc::STDOUT_FILENO;
+ghost use Rattle.printing.specs.Printed.{wholeOf, amountOf, decimal, nextText, amperesText, letterText};
+ghost use Rattle.printing.specs.Line.{afterText};
 use network::Amperes;
 use network::Verdict;
 
@@ -44,7 +45,9 @@ pub fn amount(v: Verdict) -> f64
 }
 
 // Puts bytes into the line from a place on, and gives the place after them. What the line has no room for is left out.
-pub fn put(line: &mut [u8; LINE], at: usize, bytes: &[u8]) -> usize {
+pub fn put(line: &mut [u8; LINE], at: usize, bytes: &[u8]) -> usize
+    ensures { λ r. ⌜ afterText (now (line .entry), at) (now (bytes .entry)) ≡ (now (line .exit), r) ⌝ }
+{
     let mut to = at;
     let mut i: usize = 0;
     while i < bytes.len() {
@@ -58,42 +61,56 @@ pub fn put(line: &mut [u8; LINE], at: usize, bytes: &[u8]) -> usize {
 }
 
 // Puts a number in decimal digits.
-pub fn put_number(line: &mut [u8; LINE], at: usize, n: u64) -> usize {
+pub fn put_number(line: &mut [u8; LINE], at: usize, n: u64) -> usize
+    ensures { λ r. ⌜ afterText (now (line .entry), at) (decimal n) ≡ (now (line .exit), r) ⌝ }
+{
     let mut digits = [0u8; 20];
     let k = io::decimal(n, &mut digits);
     put(line, at, &digits[..k])
 }
 
 // Puts a comma and a number.
-pub fn put_next(line: &mut [u8; LINE], at: usize, n: u64) -> usize {
+pub fn put_next(line: &mut [u8; LINE], at: usize, n: u64) -> usize
+    ensures { λ r. ⌜ afterText (now (line .entry), at) (nextText n) ≡ (now (line .exit), r) ⌝ }
+{
     let to = put(line, at, b",");
     put_number(line, to, n)
 }
 
+// Puts a comma and a current without its fraction.
+fn put_current(line: &mut [u8; LINE], at: usize, x: f64) -> usize
+    ensures { λ r. ⌜ afterText (now (line .entry), at) (nextText (wholeOf x)) ≡ (now (line .exit), r) ⌝ }
+{
+    put_next(line, at, number_of(x))
+}
+
 // Puts the six amperes, each after a comma.
-pub fn put_amperes(line: &mut [u8; LINE], at: usize, a: Amperes) -> usize {
-    let lower = put_next(line, at, number_of(a.lower.0));
-    let upper = put_next(line, lower, number_of(a.upper.0));
-    let converters_lower = put_next(line, upper, number_of(a.converters_lower.0));
-    let converters_upper = put_next(line, converters_lower, number_of(a.converters_upper.0));
-    let peak = put_next(line, converters_upper, number_of(a.peak.0));
-    put_next(line, peak, number_of(a.converters_peak.0))
+pub fn put_amperes(line: &mut [u8; LINE], at: usize, a: Amperes) -> usize
+    ensures { λ r. ⌜ afterText (now (line .entry), at) (amperesText a) ≡ (now (line .exit), r) ⌝ }
+{
+    let lower = put_current(line, at, a.lower.0);
+    let upper = put_current(line, lower, a.upper.0);
+    let converters_lower = put_current(line, upper, a.converters_lower.0);
+    let converters_upper = put_current(line, converters_lower, a.converters_upper.0);
+    let peak = put_current(line, converters_upper, a.peak.0);
+    put_current(line, peak, a.converters_peak.0)
 }
 
 // Puts a comma and the verdict's letter.
-pub fn put_letter(line: &mut [u8; LINE], at: usize, v: Verdict) -> usize {
+pub fn put_letter(line: &mut [u8; LINE], at: usize, v: Verdict) -> usize
+    ensures { λ r. ⌜ afterText (now (line .entry), at) (letterText v) ≡ (now (line .exit), r) ⌝ }
+{
     let to = put(line, at, b",");
     put(line, to, &[letter(v)])
 }
 
-fn send_part(line: &[u8], end: usize) {
-    if end <= line.len() {
-        let written = &line[0..end];
-        io::write_all(STDOUT_FILENO, written);
+// The bytes of the line up to a place, the whole line where the place is past its end.
+pub fn written(line: &[u8; LINE], end: usize) -> &[u8]
+    ensures { λ r. ⌜ now r ≡ take end (now (line .entry)) ⌝ }
+{
+    let whole = &line[..];
+    if end <= whole.len() {
+        return &whole[0..end];
     }
-}
-
-// Writes the line up to a place.
-pub fn send(line: &[u8; LINE], end: usize) {
-    send_part(line, end);
+    whole
 }

@@ -1,21 +1,21 @@
-// What the programs that print vectors write: lines of words, an f64 by its bits in hexadecimal.
+// What a line is made of: words, an f64 by its bits in hexadecimal.
 use enclosure::Complex;
 use libc::STDOUT_FILENO;
 
-pub fn text(s: &[u8]) {
+pub(crate) fn text(s: &[u8]) {
     io::write_all(STDOUT_FILENO, s);
 }
 
-pub fn end() {
+pub(crate) fn end() {
     text(b"\n");
 }
 
-pub fn number(n: u64) {
+pub(crate) fn number(n: u64) {
     text(b" ");
     io::print_decimal(STDOUT_FILENO, n);
 }
 
-pub fn field(n: u32) {
+pub(crate) fn field(n: u32) {
     number(n as u64);
 }
 
@@ -28,12 +28,12 @@ fn pattern(x: f64) -> u64 {
     }
 }
 
-pub fn bits(x: f64) {
+pub(crate) fn bits(x: f64) {
     text(b" ");
     io::print_hex(STDOUT_FILENO, pattern(x), 16);
 }
 
-pub fn point(z: Complex) {
+pub(crate) fn point(z: Complex) {
     bits(z.re);
     bits(z.im);
 }

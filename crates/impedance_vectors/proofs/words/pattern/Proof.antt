@@ -1,11 +1,11 @@
--- `vectors::pattern` is safe: what equals itself is no NaN. Assumes nothing.
+-- `impedance_vectors::words::pattern` is safe: what equals itself is no NaN. Assumes nothing.
 use mathlib.Core.Path.{_≡_, sym}
 use mathlib.Core.Bool.{true, not, true≢false}
 use borrow.Author.Needs.{needs}
 use lib.Dec.{T}
 use lib.Ieee.{Float, nan, inf, fin, eq, isNan}
-use Rattle.vectors.proofs.pattern.Statement.{statement}
-use Rattle.vectors.proofs.pattern.Tie as tie
+use Rattle.impedance_vectors.proofs.words.pattern.Statement.{statement}
+use Rattle.impedance_vectors.proofs.words.pattern.Tie as tie
 
 no-nan : (x : Float) → eq x x ≡ true → T (not (isNan x))
 unfolding eq isNan
