@@ -20,7 +20,7 @@ use Rattle.enclosure.specs.declared.Complex.{Complex}
 use Rattle.elements.specs.Impedance.{converter}
 use Rattle.elements.specs.Nearness.{Calculated, line-near, transformer-near, feeder-near, generator-near, motor-near, converter-near, admittance-near}
 use Rattle.tree.specs.Walk.{joined, to-parent, to-child}
-use Rattle.tree.specs.Toward.{toward, depth}
+use Rattle.tree.specs.Toward.{toward-same, depth}
 use Rattle.tree.specs.Grid.{Branch, Grid, square, parentOf}
 use Rattle.tree.specs.Bound.{AtMost, AtLeast, Low, referred, most-more, low-inverse, most-inverse}
 use Rattle.tree.specs.Held.{Held, held-more}
@@ -47,17 +47,6 @@ rated-least v u h k = omega arith
 
 rated-most : (v u : ℕ) → u ≤ 420000 → 10 * v ≤ 11 * u → v ≤ 462000
 rated-most v u h k = omega arith
-
--- the way to bus 0 in the records is that in the tree
-depth-is : (l : List Bus) (f i : ℕ) → toward (λ j. busAt l j .parent) (λ j d. suc d) 0 f i ≡ along anyBranch l f i
-unfolding along
-depth-is l zero i = refl
-depth-is l (suc f) i = go (ltb (busAt l i .parent) i) (depth-is l f (busAt l i .parent))
-  where
-    go : (t : Bool) → toward (λ j. busAt l j .parent) (λ j d. suc d) 0 f (busAt l i .parent) ≡ along anyBranch l f (busAt l i .parent)
-        → pick t (suc (toward (λ j. busAt l j .parent) (λ j d. suc d) 0 f (busAt l i .parent))) 0 ≡ cond t (along anyBranch l f (busAt l i .parent) + 1) 0
-    go true e = ap suc e ∙ sym (add-one _)
-    go false e = refl
 
 -- an impedance with a reactance has an admittance with one
 turned-reactive : (x : Point) → 0 < x .den → 0 < x .im → 0 < inverse x .im
@@ -165,15 +154,16 @@ module _ {n : Network} (r : Rebuilt n) where
 
   -- ---- the tree
   pub sound : Sound (gridOf n)
-  unfolding depth
+  unfolding depth along
   sound = record {
     tree = λ i z l. bus-parent r i l z;
-    shallow = λ i l. shallow i (bus-depth r i l .0);
+    shallow = λ i l. rw (← same-depth i) (bus-depth r i l .0);
     volts = λ i z l. (sides i z l .above-volts, sides i z l .below-volts);
   }
     where
-      shallow : (i : ℕ) → records.depthOf (n .buses) i ≤ 18 → depth (parentOf (gridOf n)) i ≤ 18
-      shallow i h = rw (depth-is (n .buses) i i) h
+      -- the way to bus 0 in the records is that in the tree
+      same-depth : (i : ℕ) → records.depthOf (n .buses) i ≡ depth (parentOf (gridOf n)) i
+      same-depth i = toward-same _ (parentOf (gridOf n)) (λ j d. d + 1) (λ j d. suc d) 0 (suc i) (λ j m. refl) (λ j d z m. add-one d) i i (omega arith)
 
   pub levels : Levels (gridOf n) (voltsOf n)
   levels = record {
