@@ -1,39 +1,36 @@
 -- What acceptance gives of a network's tree: its shape, its voltages, and how near and how large each element is.
 -- Assumes nothing.
-use Prim.Native.Nat.{ℕ, zero, suc, _+_, _*_, _^_, min, _≤_, _<_}
-use mathlib.Core.Path.{_≡_, refl, sym, _∙_, ap, subst}
-use mathlib.Core.Bool.{Bool, true, false, cond, _&&_}
-use mathlib.Core.List.{List, [], _∷_}
-use mathlib.Core.Logic.{_⊎_, inl, inr, ⊎-elim}
+use Prim.Native.Nat.{ℕ, suc, _+_, _*_, _^_, min, _≤_, _<_}
+use mathlib.Core.Path.{_≡_, refl, subst}
+use mathlib.Core.Bool.{Bool, true, false}
+use mathlib.Core.List.{[], _∷_}
+use mathlib.Core.Logic.{inr, ⊎-elim}
 use native.Mathlib.Omega.{arith}
-use native.Mathlib.Nat.{le-refl, le-trans, mul-le-mul, mul-pos}
+use native.Mathlib.Nat.{le-trans, mul-le-mul, mul-pos}
 use native.Mathlib.Numerals.{add-one}
-use lib.Dec.{leb, ltb, eqb, lit<, lit≤}
-use lib.ListN.{length, getD}
-use borrow.Author.Tests.{eqb-true, eqb-false, eq-eqb, ne-eqb, leb-true, ltb-true, ltb-false}
+use lib.Dec.{ltb, eqb, lit<, lit≤}
+use lib.ListN.{length}
+use borrow.Author.Tests.{eqb-true, eqb-false, ne-eqb, leb-true}
 use Rattle.algebra.specs.Reading.{from, read, _⊹_, _⋆_}
-use Rattle.enclosure.specs.Point.{pick, Point, nothing, exact, inverse}
+use Rattle.enclosure.specs.Point.{pick, Point, exact, inverse}
 use Rattle.enclosure.specs.Near.{inverse-proper}
 use Rattle.enclosure.specs.Range.{Volts}
-use Rattle.enclosure.specs.Doubles.{inverted}
 use Rattle.enclosure.specs.declared.Complex.{Complex}
 use Rattle.elements.specs.Impedance.{converter}
-use Rattle.elements.specs.Nearness.{Calculated, line-near, transformer-near, feeder-near, generator-near, motor-near, converter-near, admittance-near}
+use Rattle.elements.specs.Nearness.{line-near, transformer-near, feeder-near, generator-near, motor-near, converter-near, admittance-near}
 use Rattle.tree.specs.Walk.{joined, to-parent, to-child}
 use Rattle.tree.specs.Toward.{toward-same, depth}
-use Rattle.tree.specs.Grid.{Branch, Grid, square, parentOf}
-use Rattle.tree.specs.Bound.{AtMost, AtLeast, Low, referred, most-more, low-inverse, most-inverse}
+use Rattle.tree.specs.Grid.{square, parentOf}
+use Rattle.tree.specs.Bound.{AtLeast, referred, low-inverse, most-inverse}
 use Rattle.tree.specs.Held.{Held, held-more}
 use Rattle.tree.specs.Sound.{Sound, Levels, tenths, Impedance}
 use Rattle.tree.specs.Sources.{Bounded}
-use Rattle.network.specs.declared.Bus.{Bus}
-use Rattle.network.specs.declared.Source.{Source}
 use Rattle.network.specs.Network as records
-use Rattle.network.specs.Network.{Network, busAt, sourceAt, along, anyBranch}
+use Rattle.network.specs.Network.{Network, busAt, sourceAt, along}
 use Rattle.network.specs.Rebuilt.{Rebuilt}
-use Rattle.network.specs.Tests.{by-test, both-true}
+use Rattle.network.specs.Tests.{by-test}
 use Rattle.network.specs.Facts.{bus-volts, bus-parent, bus-kind, line-ranges, transformer-ranges, line-volts, transformer-volts, bus-depth, Rated, source-kind, source-bus, feeder-ranges, generator-ranges, motor-ranges, converter-ranges, machine-volts, ConverterRanges}
-use Rattle.network.specs.Grid.{branchOf, aboveOf, belowOf, impedanceOf, admittanceOf, currentOf, isMachine, isConverter, machineAt, converterAt, gridOf}
+use Rattle.network.specs.Grid.{branchOf, aboveOf, belowOf, impedanceOf, admittanceOf, currentOf, isMachine, isConverter, gridOf}
 use Rattle.network.specs.Rounded.{branchBy, admittanceBy, machineBy, suppliedBy, branchesBy}
 use Rattle.network.specs.Elements.{branchMost, machineMost, line-impedance, line-least, transformer-impedance, transformer-least, transformer-least-above, Machine, feeder-machine, generator-machine, motor-machine}
 

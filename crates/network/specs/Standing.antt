@@ -1,33 +1,32 @@
 -- What stands at each bus of an accepted network: the sum of its machines' admittances and of its converters' currents, exact and in f64.
 -- Assumes nothing.
 use Prim.Native.Nat.{ℕ, zero, suc, _+_, _*_, _^_, _≤_, _<_, zero-le}
-use mathlib.Core.Path.{_≡_, refl, sym, _∙_, ap, subst}
+use mathlib.Core.Path.{_≡_, refl, sym, ap, subst}
 use mathlib.Core.Bool.{Bool, true, false, _&&_}
 use mathlib.Core.List.{List, [], _∷_}
-use mathlib.Core.Logic.{_⊎_, inl, inr, ⊎-elim}
 use native.Mathlib.Omega.{arith}
-use native.Mathlib.Nat.{le-refl, le-trans, mul-le-mul, mul-pos, mul-add, mul-suc}
-use lib.Dec.{leb, eqb, lit<, lit≤}
+use native.Mathlib.Nat.{le-refl, le-trans, mul-le-mul, mul-pos, mul-add}
+use lib.Dec.{eqb, lit<, lit≤}
 use lib.ListN.{length, getD}
-use borrow.Author.Tests.{eqb-true, eq-eqb}
+use borrow.Author.Tests.{eqb-true}
 use Rattle.algebra.specs.Reading.{from, read, _⊹_, _⋆_}
 use Rattle.enclosure.specs.Point.{pick, Point, nothing, sum}
 use Rattle.elements.specs.Impedance.{converter}
 use Rattle.enclosure.specs.Near.{inverse-proper}
-use Rattle.tree.specs.Bound.{AtMost, Low, most-more, most-sum}
+use Rattle.tree.specs.Bound.{AtMost, most-more, most-sum}
 use Rattle.tree.specs.Sums.{sumOf, sums}
 use Rattle.tree.specs.Held.{Held, held-more}
 use Rattle.tree.specs.Sound.{Admittance, Plain, Amperes}
 use Rattle.tree.specs.Sources.{Bounded, sum-held}
 use Rattle.network.specs.declared.Source.{Source}
-use Rattle.network.specs.Network.{Network, busAt, sourceAt, blankSource}
+use Rattle.network.specs.Network.{Network, sourceAt, blankSource}
 use Rattle.network.specs.Rebuilt.{Rebuilt}
 use Rattle.network.specs.Tests.{both-true}
-use Rattle.network.specs.Facts.{few-buses, few-sources, first-feeder, bus-volts}
+use Rattle.network.specs.Facts.{few-sources, first-feeder, bus-volts}
 use Rattle.network.specs.Grid.{admittanceOf, currentOf, isMachine, isConverter, machineAt, converterAt, gridOf}
-use Rattle.network.specs.Rounded.{machineBy, suppliedBy, ownBy, convertersBy, branchesBy}
+use Rattle.network.specs.Rounded.{machineBy, suppliedBy, ownBy, convertersBy}
 use Rattle.network.specs.Elements.{machineMost}
-use Rattle.network.specs.Ranges.{voltsOf, branch-impedance, near-branch, machine-near, machine-bounded, machine-volt-bounded, machine-reactive, supply-near, supply-bounded}
+use Rattle.network.specs.Ranges.{voltsOf, branch-impedance, machine-near, machine-bounded, machine-volt-bounded, machine-reactive, supply-near, supply-bounded}
 
 -- ---- sums over a list, by induction
 -- how many elements pass a test
