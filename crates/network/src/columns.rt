@@ -14,8 +14,7 @@ use crate::bus_total;
 use crate::records::branch_impedance;
 use crate::records::converter_current;
 use crate::records::machine_admittance;
-use crate::records::rated_above;
-use crate::records::rated_below;
+use crate::records::rated_volts;
 use crate::source_total;
 use enclosure::Complex;
 use enclosure::add;
@@ -41,8 +40,8 @@ fn entry_of(entry: Entry, b: Bus) -> u32
     match entry {
         Entry::Parent => b.parent,
         Entry::Volts => b.volts,
-        Entry::Above => rated_above(b),
-        Entry::Below => rated_below(b),
+        Entry::Above => rated_volts(b.kind, b.f1),
+        Entry::Below => rated_volts(b.kind, b.f2),
     }
 }
 
