@@ -1,10 +1,10 @@
 -- DEMAND 3: the figures that are calculated for any bus of an accepted network keep document 01's comparisons with the exact values
 -- drawn from its records. Assumes nothing.
-use Prim.Native.Nat.{ℕ, zero, suc, _+_, _*_, _^_, _≤_, _<_, zero-le}
+use Prim.Native.Nat.{ℕ, zero, suc, _+_, _*_, _^_, _≤_, _<_}
 use mathlib.Core.Path.{_≡_, refl, sym, _∙_, ap, subst}
-use mathlib.Core.Bool.{Bool, true, false}
+use mathlib.Core.Bool.{true}
 use mathlib.Core.List.{List, [], _∷_}
-use mathlib.Core.Logic.{_⊎_, inl, inr, ⊎-elim}
+use mathlib.Core.Logic.{inl, inr}
 use native.Mathlib.Omega.{arith}
 use native.Mathlib.Nat.{le-refl, le-trans, le-of-eq, mul-le-mul, mul-add, mul-pos}
 use lib.Dec.{lit<, lit≤}
@@ -14,35 +14,35 @@ use Rattle.algebra.specs.Reading.{identity, from, from-over, read, _⊹_, _⋆_
 use Rattle.enclosure.specs.Close.{norm}
 use Rattle.enclosure.specs.Root.{root-le}
 use Rattle.enclosure.specs.Point.{Point, inverse, turned}
-use Rattle.enclosure.specs.Near.{Near, NearTo}
+use Rattle.enclosure.specs.Near.{NearTo}
 use Rattle.enclosure.specs.Steps.{parts}
 use Rattle.enclosure.specs.Units.{unit, extent}
-use Rattle.enclosure.specs.Fair.{value, size, Fine}
-use Rattle.enclosure.specs.Range.{Good, Volts}
-use Rattle.enclosure.specs.Amperes.{Enclosed, Extent}
+use Rattle.enclosure.specs.Fair.{value, size}
+use Rattle.enclosure.specs.Range.{Good}
+use Rattle.enclosure.specs.Amperes.{Extent}
 use Rattle.enclosure.specs.Chain.{width}
 use Rattle.enclosure.specs.declared.Complex.{Complex}
 use Rattle.elements.specs.Factors.{factorC}
 use Rattle.elements.specs.Sizes.{factorC-sized}
-use Rattle.elements.specs.Peak.{PeakBound, peakOver, peakUnder, peak-scale}
+use Rattle.elements.specs.Peak.{PeakBound, peak-scale}
 use Rattle.elements.specs.Currents.{converterPeakBy}
-use Rattle.elements.specs.Figures.{driven, MachineFigures, machine-figures, ConverterFigures, converter-figures}
+use Rattle.elements.specs.Figures.{MachineFigures, machine-figures, ConverterFigures, converter-figures}
 use Rattle.tree.specs.Grid.{seen}
 use Rattle.tree.specs.Converters.{carried, carried-real}
 use Rattle.tree.specs.Sums.{sums}
-use Rattle.tree.specs.Bound.{AtMost, Low, seen-most}
+use Rattle.tree.specs.Bound.{seen-most}
 use Rattle.tree.specs.Held.{Held, held-more, held-good, InRange}
 use Rattle.tree.specs.Sound.{sound-proper}
 use Rattle.tree.specs.Fed.{seen-reactive}
 use Rattle.tree.specs.Seen.{seen-near, seen-low, seen-high}
 use Rattle.tree.specs.Rooted.{carried-proper}
 use Rattle.tree.specs.Currents.{carried-near, carried-range, carried-most}
-use Rattle.network.specs.Network.{Network, busAt}
+use Rattle.network.specs.Network.{Network}
 use Rattle.network.specs.Calls.{Call, run}
 use Rattle.network.specs.Rebuilt.{Rebuilt, run-rebuilt}
 use Rattle.network.specs.Facts.{bus-volts, few-buses, few-sources, closed-source}
-use Rattle.network.specs.Grid.{gridOf, converterAt, isConverter, impedanceAt, convertersAt}
-use Rattle.network.specs.Demand.{Figures, Whole, driving, NotAbove, NotBelow, Narrow, MachinesHold, ConvertersHold, Demand}
+use Rattle.network.specs.Grid.{gridOf, converterAt, isConverter}
+use Rattle.network.specs.Demand.{Whole, MachinesHold, ConvertersHold, Demand}
 use Rattle.network.specs.Rounded.{ownBy, convertersBy, branchesBy, seenAt, carriedAt, figuresBy, figuresAt, amperesAt}
 use Rattle.network.specs.Elements.{branchMost, machineMost}
 use Rattle.network.specs.Ranges.{voltsOf, sound, levels, referred-least, near-branch}

@@ -1,7 +1,7 @@
 -- How large and how small the exact impedances and admittances of accepted records are: the bounds that the calculation in f64 asks for,
 -- and those that keep every figure below 2⁵³. Over plain numbers in document 01's ranges. Assumes nothing.
-use Prim.Native.Nat.{ℕ, zero, suc, _+_, _*_, _^_, _≤_, _<_, zero-le}
-use mathlib.Core.Path.{_≡_, refl}
+use Prim.Native.Nat.{ℕ, _+_, _*_, _^_, _≤_, _<_}
+use mathlib.Core.Path.{refl}
 use mathlib.Core.List.{[], _∷_}
 use native.Mathlib.Omega.{arith}
 use native.Mathlib.Nat.{le-refl, le-trans, lt-of-not-le, mul-le-mul, mul-pos}
@@ -9,14 +9,15 @@ use lib.Dec.{lit<, lit≤}
 use Rattle.algebra.specs.Reading.{poly, from, from-over, read, _⊹_, _⋆_}
 use Rattle.enclosure.specs.Root.{below-of-squares}
 use Rattle.enclosure.specs.Point.{Point, times, exact}
-use Rattle.elements.specs.Factors.{factorC, sineOf, uxOf, ux-most, ux-greatest, splitOf, split-most, split-greatest}
+use Rattle.elements.specs.Factors.{factorC, sineOf, uxOf, ux-most, ux-greatest, splitOf, split-greatest}
 use Rattle.elements.specs.Sizes.{split-re-most, split-im-most, factorC-sized, saturation-most}
-use Rattle.elements.specs.Impedance.{line, transformer, split, feeder, motor, generator, converter}
+use Rattle.elements.specs.Impedance.{line, transformer, split, feeder, motor, generator}
 use Rattle.tree.specs.Grid.{square}
 use Rattle.tree.specs.Bound.{AtMost, AtLeast}
 use Rattle.tree.specs.Sound.{Impedance}
 
--- what is seen through one branch or from one machine is at most 6.72·10¹² V·S, so that 64 of each keep √3·I below 2 ^ 50 A
+-- (re + im)·Un of what is seen through one branch is at most 6.72·10¹² V·S, that of one machine at most 8.59·10⁹ V·S: 64 branches
+-- and 256 machines together keep it at 2 ^ 49 or less, and √3·I at 2 ^ 50 A or less (Claim)
 abbrev pub branchMost : ℕ
 branchMost = 6720000000000
 

@@ -1,18 +1,18 @@
 -- What every network that calls can make keeps (`run-rebuilt`), as facts about its numbers. Each law takes the invariant first.
 use mathlib.Core.Path.{_≡_, refl}
-use mathlib.Core.Bool.{true, not, _&&_}
-use mathlib.Core.Logic.{_⊎_, inl, inr, ⊎-elim}
+use mathlib.Core.Bool.{true, not}
+use mathlib.Core.Logic.{_⊎_, inl, inr}
 use Prim.Native.Nat.{ℕ, _+_, _*_, _≤_, _<_}
 use native.Mathlib.Omega.{arith}
-use borrow.Author.Tests.{leb-true, ltb-true, eqb-true, le-leb, not-true, eqb-false}
-use lib.Dec.{leb, ltb, eqb}
+use borrow.Author.Tests.{leb-true, ltb-true, eqb-true, le-leb, eqb-false}
+use lib.Dec.{leb, eqb}
 use lib.ListN.{length}
 use Rattle.network.specs.declared.Bus.{Bus}
 use Rattle.network.specs.declared.Source.{Source}
-use Rattle.network.specs.Records.{within, all, noBranchTests, lineTests, transformerTests, branchOk, ratedOk, feederTests, generatorTests, motorTests, converterTests, fieldsOk}
+use Rattle.network.specs.Records.{within, all, lineTests, transformerTests, branchOk, ratedOk, feederTests, generatorTests, motorTests, converterTests, fieldsOk}
 use Rattle.network.specs.Network.{Network, maxBuses, maxSources, maxBranches, maxTransformers, busAt, parentOf, sourceAt, depthOf, transformersOf}
 use Rattle.network.specs.Grounds.{depthOk, busGrounds, busRecordNumber, sourceGrounds, sourceRecordNumber}
-use Rattle.network.specs.Tests.{by-test, both-true, one-true, where-true, within-true, at-zero, past-zero, Every, all-true, not-both-zero}
+use Rattle.network.specs.Tests.{by-test, both-true, where-true, within-true, at-zero, past-zero, all-true, not-both-zero}
 use Rattle.network.specs.Acceptance.{Passed, passed}
 use Rattle.network.specs.Rebuilt.{Rebuilt}
 
@@ -132,13 +132,6 @@ converter-fields p e =
 
 -- ---- the whole network
 module _ {n : Network} (r : Rebuilt n) where
-  pub tolerance-six-or-ten : (n .tolerance ≡ 6) ⊎ (n .tolerance ≡ 10)
-  tolerance-six-or-ten =
-      ⊎-elim
-      (λ e. inl (eqb-true (n .tolerance) 6 e))
-      (λ e. inr (eqb-true (n .tolerance) 10 e))
-      (one-true (eqb (n .tolerance) 6) (eqb (n .tolerance) 10) (r .tolerance))
-
   pub few-buses : length (n .buses) ≤ maxBuses
   few-buses = r .bus-room
 
@@ -159,15 +152,9 @@ module _ {n : Network} (r : Rebuilt n) (i : ℕ) (h : i < length (n .buses)) whe
   pub bus-volts : (100 ≤ busAt (n .buses) i .volts) × (busAt (n .buses) i .volts ≤ 420000)
   bus-volts = within-true (busAt (n .buses) i .volts) 100 420000 (bus-tests .0)
 
-  -- "Bus 0 has parent 0, kind 0, branch fields 0. Any other bus names a parent with a smaller number."
-  pub bus-zero-parent : i ≡ 0 → busAt (n .buses) i .parent ≡ 0
-  bus-zero-parent z = eqb-true _ 0 (at-zero i _ (ltb (busAt (n .buses) i .parent) i) (bus-tests .1 .0) z)
-
+  -- "Any other bus names a parent with a smaller number."
   pub bus-parent : 0 < i → busAt (n .buses) i .parent < i
   bus-parent z = ltb-true _ i (past-zero i (eqb (busAt (n .buses) i .parent) 0) _ (bus-tests .1 .0) z)
-
-  pub bus-zero-kind : i ≡ 0 → busAt (n .buses) i .kind ≡ 0
-  bus-zero-kind z = eqb-true _ 0 (at-zero i _ (within (busAt (n .buses) i .kind) 1 2) (bus-tests .1 .1 .0) z)
 
   pub bus-kind : 0 < i → (busAt (n .buses) i .kind ≡ 1) ⊎ (busAt (n .buses) i .kind ≡ 2)
   bus-kind z =
@@ -178,10 +165,6 @@ module _ {n : Network} (r : Rebuilt n) (i : ℕ) (h : i < length (n .buses)) whe
       (λ e. inr (omega (arith, eqb-false k 1 e)))
 
   -- the branch fields, by the kind
-  pub no-branch-fields : busAt (n .buses) i .kind ≡ 0 → Every (noBranchTests (busAt (n .buses) i))
-  unfolding branchOk
-  no-branch-fields k = all-true (noBranchTests (busAt (n .buses) i)) (rw k at (bus-tests .1 .1 .1 .0))
-
   pub line-ranges : busAt (n .buses) i .kind ≡ 1 → LineRanges (busAt (n .buses) i)
   unfolding branchOk
   line-ranges k = line-fields (busAt (n .buses) i) (rw k at (bus-tests .1 .1 .1 .0))
@@ -261,12 +244,3 @@ module _ {n : Network} (r : Rebuilt n) (j : ℕ) (h : j < length (n .sources)) w
       let p = sourceAt (n .sources) j in
       let e = both-true (eqb (p .kind) 1) (eqb (p .bus) 0) (at-zero j _ (not (eqb (p .kind) 1)) (source-tests .1 .1 .1 .1 .0) z) in
       (eqb-true (p .kind) 1 (e .0), eqb-true (p .bus) 0 (e .1))
-
-  pub later-no-feeder : 0 < j → sourceAt (n .sources) j .kind ≡ 1 → ⊥
-  later-no-feeder z =
-      let p = sourceAt (n .sources) j in
-      eqb-false (p .kind) 1 (not-true (eqb (p .kind) 1) (past-zero j (eqb (p .kind) 1 && eqb (p .bus) 0) _ (source-tests .1 .1 .1 .1 .0) z))
-
--- a closed network has a bus, that of its feeder
-pub closed-bus : {n : Network} → Rebuilt n → n .closed ≡ true → 0 < length (n .buses)
-closed-bus r c = omega (arith, source-bus r 0 (r .fed c))

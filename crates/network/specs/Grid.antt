@@ -1,12 +1,11 @@
 -- Document 01, "Seen impedance": a network's records as a tree of branches with what stands at each bus, exact.
-use Prim.Native.Nat.{ℕ, _+_, _*_, min}
+use Prim.Native.Nat.{ℕ, min}
 use mathlib.Core.Bool.{Bool, cond, _&&_}
-use mathlib.Core.List.{List}
 use lib.Dec.{leb, eqb}
 use lib.ListN.{length}
 use Rattle.enclosure.specs.Point.{Point, nothing, sum, inverse}
 use Rattle.elements.specs.Impedance as impedance
-use Rattle.tree.specs.Grid.{Branch, Grid, seen}
+use Rattle.tree.specs.Grid.{Grid, seen}
 use Rattle.tree.specs.Converters.{carried}
 use Rattle.tree.specs.Sums.{sumOf}
 use Rattle.network.specs.declared.Bus.{Bus}

@@ -1,9 +1,10 @@
 -- The network of a study: its tolerance, whether it is closed, and the lists of its records, each kind in order.
 use mathlib.Core.Bool.{Bool, cond}
 use mathlib.Core.List.{List}
-use Prim.Native.Nat.{ℕ, zero, suc, _+_}
-use lib.Dec.{ltb, eqb}
+use Prim.Native.Nat.{ℕ, _+_}
+use lib.Dec.{eqb}
 use lib.ListN.{take, getD}
+use Rattle.tree.specs.Toward.{toward}
 use Rattle.network.specs.declared.Bus.{Bus}
 use Rattle.network.specs.declared.Source.{Source}
 use Rattle.network.specs.declared.Study.{Study}
@@ -57,11 +58,10 @@ abbrev pub sourceAt : List Source → ℕ → Source
 sourceAt l j = getD l j blankSource
 
 -- The branches on the way from bus i to bus 0, each counted as `weight` says of the record that holds it, that of the bus farther
--- from bus 0. "Any other bus names a parent with a smaller number": the way goes on while numbers fall, so that i steps are enough.
+-- from bus 0. "Any other bus names a parent with a smaller number": the way goes on while numbers fall (`toward`), so that i steps
+-- are enough.
 unfoldable pub along : (Bus → ℕ) → List Bus → ℕ → ℕ → ℕ
-along weight l zero i = 0
-along weight l (suc steps) i =
-    cond (ltb (busAt l i .parent) i) (along weight l steps (busAt l i .parent) + weight (busAt l i)) 0
+along weight l = toward (λ i. busAt l i .parent) (λ i count. count + weight (busAt l i)) 0
 
 abbrev pub way : (Bus → ℕ) → List Bus → ℕ → ℕ
 way weight l i = along weight l i i

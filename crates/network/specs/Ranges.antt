@@ -1,39 +1,36 @@
 -- What acceptance gives of a network's tree: its shape, its voltages, and how near and how large each element is.
 -- Assumes nothing.
-use Prim.Native.Nat.{ℕ, zero, suc, _+_, _*_, _^_, min, _≤_, _<_}
-use mathlib.Core.Path.{_≡_, refl, sym, _∙_, ap, subst}
-use mathlib.Core.Bool.{Bool, true, false, cond, _&&_}
-use mathlib.Core.List.{List, [], _∷_}
-use mathlib.Core.Logic.{_⊎_, inl, inr, ⊎-elim}
+use Prim.Native.Nat.{ℕ, suc, _+_, _*_, _^_, min, _≤_, _<_}
+use mathlib.Core.Path.{_≡_, refl, subst}
+use mathlib.Core.Bool.{Bool, true, false}
+use mathlib.Core.List.{[], _∷_}
+use mathlib.Core.Logic.{inr, ⊎-elim}
 use native.Mathlib.Omega.{arith}
-use native.Mathlib.Nat.{le-refl, le-trans, mul-le-mul, mul-pos}
+use native.Mathlib.Nat.{le-trans, mul-le-mul, mul-pos}
 use native.Mathlib.Numerals.{add-one}
-use lib.Dec.{leb, ltb, eqb, lit<, lit≤}
-use lib.ListN.{length, getD}
-use borrow.Author.Tests.{eqb-true, eqb-false, eq-eqb, ne-eqb, leb-true, ltb-true, ltb-false}
+use lib.Dec.{ltb, eqb, lit<, lit≤}
+use lib.ListN.{length}
+use borrow.Author.Tests.{eqb-true, eqb-false, ne-eqb, leb-true}
 use Rattle.algebra.specs.Reading.{from, read, _⊹_, _⋆_}
-use Rattle.enclosure.specs.Point.{pick, Point, nothing, exact, inverse}
+use Rattle.enclosure.specs.Point.{pick, Point, exact, inverse}
 use Rattle.enclosure.specs.Near.{inverse-proper}
 use Rattle.enclosure.specs.Range.{Volts}
-use Rattle.enclosure.specs.Doubles.{inverted}
 use Rattle.enclosure.specs.declared.Complex.{Complex}
 use Rattle.elements.specs.Impedance.{converter}
-use Rattle.elements.specs.Nearness.{Calculated, line-near, transformer-near, feeder-near, generator-near, motor-near, converter-near, admittance-near}
+use Rattle.elements.specs.Nearness.{line-near, transformer-near, feeder-near, generator-near, motor-near, converter-near, admittance-near}
 use Rattle.tree.specs.Walk.{joined, to-parent, to-child}
-use Rattle.tree.specs.Toward.{toward, depth}
-use Rattle.tree.specs.Grid.{Branch, Grid, square, parentOf}
-use Rattle.tree.specs.Bound.{AtMost, AtLeast, Low, referred, most-more, low-inverse, most-inverse}
+use Rattle.tree.specs.Toward.{toward-same, depth}
+use Rattle.tree.specs.Grid.{square, parentOf}
+use Rattle.tree.specs.Bound.{AtLeast, referred, low-inverse, most-inverse}
 use Rattle.tree.specs.Held.{Held, held-more}
 use Rattle.tree.specs.Sound.{Sound, Levels, tenths, Impedance}
 use Rattle.tree.specs.Sources.{Bounded}
-use Rattle.network.specs.declared.Bus.{Bus}
-use Rattle.network.specs.declared.Source.{Source}
 use Rattle.network.specs.Network as records
-use Rattle.network.specs.Network.{Network, busAt, sourceAt, along, anyBranch}
+use Rattle.network.specs.Network.{Network, busAt, sourceAt, along}
 use Rattle.network.specs.Rebuilt.{Rebuilt}
-use Rattle.network.specs.Tests.{by-test, both-true}
+use Rattle.network.specs.Tests.{by-test}
 use Rattle.network.specs.Facts.{bus-volts, bus-parent, bus-kind, line-ranges, transformer-ranges, line-volts, transformer-volts, bus-depth, Rated, source-kind, source-bus, feeder-ranges, generator-ranges, motor-ranges, converter-ranges, machine-volts, ConverterRanges}
-use Rattle.network.specs.Grid.{branchOf, aboveOf, belowOf, impedanceOf, admittanceOf, currentOf, isMachine, isConverter, machineAt, converterAt, gridOf}
+use Rattle.network.specs.Grid.{branchOf, aboveOf, belowOf, impedanceOf, admittanceOf, currentOf, isMachine, isConverter, gridOf}
 use Rattle.network.specs.Rounded.{branchBy, admittanceBy, machineBy, suppliedBy, branchesBy}
 use Rattle.network.specs.Elements.{branchMost, machineMost, line-impedance, line-least, transformer-impedance, transformer-least, transformer-least-above, Machine, feeder-machine, generator-machine, motor-machine}
 
@@ -47,17 +44,6 @@ rated-least v u h k = omega arith
 
 rated-most : (v u : ℕ) → u ≤ 420000 → 10 * v ≤ 11 * u → v ≤ 462000
 rated-most v u h k = omega arith
-
--- the way to bus 0 in the records is that in the tree
-depth-is : (l : List Bus) (f i : ℕ) → toward (λ j. busAt l j .parent) (λ j d. suc d) 0 f i ≡ along anyBranch l f i
-unfolding along
-depth-is l zero i = refl
-depth-is l (suc f) i = go (ltb (busAt l i .parent) i) (depth-is l f (busAt l i .parent))
-  where
-    go : (t : Bool) → toward (λ j. busAt l j .parent) (λ j d. suc d) 0 f (busAt l i .parent) ≡ along anyBranch l f (busAt l i .parent)
-        → pick t (suc (toward (λ j. busAt l j .parent) (λ j d. suc d) 0 f (busAt l i .parent))) 0 ≡ cond t (along anyBranch l f (busAt l i .parent) + 1) 0
-    go true e = ap suc e ∙ sym (add-one _)
-    go false e = refl
 
 -- an impedance with a reactance has an admittance with one
 turned-reactive : (x : Point) → 0 < x .den → 0 < x .im → 0 < inverse x .im
@@ -165,15 +151,16 @@ module _ {n : Network} (r : Rebuilt n) where
 
   -- ---- the tree
   pub sound : Sound (gridOf n)
-  unfolding depth
+  unfolding depth along
   sound = record {
     tree = λ i z l. bus-parent r i l z;
-    shallow = λ i l. shallow i (bus-depth r i l .0);
+    shallow = λ i l. rw (← same-depth i) (bus-depth r i l .0);
     volts = λ i z l. (sides i z l .above-volts, sides i z l .below-volts);
   }
     where
-      shallow : (i : ℕ) → records.depthOf (n .buses) i ≤ 18 → depth (parentOf (gridOf n)) i ≤ 18
-      shallow i h = rw (depth-is (n .buses) i i) h
+      -- the way to bus 0 in the records is that in the tree
+      same-depth : (i : ℕ) → records.depthOf (n .buses) i ≡ depth (parentOf (gridOf n)) i
+      same-depth i = toward-same _ (parentOf (gridOf n)) (λ j d. d + 1) (λ j d. suc d) 0 (suc i) (λ j m. refl) (λ j d z m. add-one d) i i (omega arith)
 
   pub levels : Levels (gridOf n) (voltsOf n)
   levels = record {

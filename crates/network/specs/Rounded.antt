@@ -1,7 +1,6 @@
 -- The calculation of a query in f64, as the code makes it: a definition for each function. That it keeps demand 3 is proved in Claim.
-use Prim.Native.Nat.{ℕ, _+_, _*_, min}
-use mathlib.Core.Bool.{Bool, cond}
-use mathlib.Core.List.{List}
+use Prim.Native.Nat.{ℕ, min}
+use mathlib.Core.Bool.{cond}
 use lib.Dec.{eqb}
 use Rattle.enclosure.specs.declared.Complex.{Complex}
 use Rattle.enclosure.specs.Units.{ofNat}

@@ -1,11 +1,11 @@
 -- Document 01: "Networks are alike in all but their converters when tolerance, buses and the other sources, in order, agree." Then every
 -- bus gets the same bounds and the same peak for the machines' part. Assumes nothing.
-use Prim.Native.Nat.{ℕ, _≤_, _<_}
-use mathlib.Core.Path.{_≡_, refl, sym, _∙_, ap, ap₂}
-use mathlib.Core.Bool.{Bool, true, false, not, _&&_}
+use Prim.Native.Nat.{ℕ, _<_}
+use mathlib.Core.Path.{_≡_, _∙_, ap, ap₂}
+use mathlib.Core.Bool.{Bool, true, not}
 use mathlib.Core.List.{List}
 use native.Mathlib.Omega.{arith}
-use lib.Dec.{leb, eqb}
+use lib.Dec.{eqb}
 use lib.ListN.{length}
 use borrow.Author.Tests.{leb-true, ne-eqb}
 use lib.Ieee.{Float}
@@ -14,7 +14,7 @@ use Rattle.enclosure.specs.Doubles.{none, added, doubles, lowerOf, upperOf}
 use Rattle.elements.specs.Factors.{factorC}
 use Rattle.elements.specs.Currents.{currentBy, machinePeakBy}
 use Rattle.enclosure.specs.declared.Complex.{Complex}
-use Rattle.tree.specs.Grid.{seen-same, seenBy}
+use Rattle.tree.specs.Grid.{seen-same}
 use Rattle.tree.specs.Sums.{sumOf, filtered, sum-alike}
 use Rattle.network.specs.declared.Bus.{Bus}
 use Rattle.network.specs.declared.Source.{Source}

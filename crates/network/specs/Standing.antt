@@ -1,33 +1,32 @@
 -- What stands at each bus of an accepted network: the sum of its machines' admittances and of its converters' currents, exact and in f64.
 -- Assumes nothing.
 use Prim.Native.Nat.{ℕ, zero, suc, _+_, _*_, _^_, _≤_, _<_, zero-le}
-use mathlib.Core.Path.{_≡_, refl, sym, _∙_, ap, subst}
+use mathlib.Core.Path.{_≡_, refl, sym, ap, subst}
 use mathlib.Core.Bool.{Bool, true, false, _&&_}
 use mathlib.Core.List.{List, [], _∷_}
-use mathlib.Core.Logic.{_⊎_, inl, inr, ⊎-elim}
 use native.Mathlib.Omega.{arith}
-use native.Mathlib.Nat.{le-refl, le-trans, mul-le-mul, mul-pos, mul-add, mul-suc}
-use lib.Dec.{leb, eqb, lit<, lit≤}
+use native.Mathlib.Nat.{le-refl, le-trans, mul-le-mul, mul-pos, mul-add}
+use lib.Dec.{eqb, lit<, lit≤}
 use lib.ListN.{length, getD}
-use borrow.Author.Tests.{eqb-true, eq-eqb}
+use borrow.Author.Tests.{eqb-true}
 use Rattle.algebra.specs.Reading.{from, read, _⊹_, _⋆_}
 use Rattle.enclosure.specs.Point.{pick, Point, nothing, sum}
 use Rattle.elements.specs.Impedance.{converter}
 use Rattle.enclosure.specs.Near.{inverse-proper}
-use Rattle.tree.specs.Bound.{AtMost, Low, most-more, most-sum}
+use Rattle.tree.specs.Bound.{AtMost, most-more, most-sum}
 use Rattle.tree.specs.Sums.{sumOf, sums}
 use Rattle.tree.specs.Held.{Held, held-more}
 use Rattle.tree.specs.Sound.{Admittance, Plain, Amperes}
 use Rattle.tree.specs.Sources.{Bounded, sum-held}
 use Rattle.network.specs.declared.Source.{Source}
-use Rattle.network.specs.Network.{Network, busAt, sourceAt, blankSource}
+use Rattle.network.specs.Network.{Network, sourceAt, blankSource}
 use Rattle.network.specs.Rebuilt.{Rebuilt}
 use Rattle.network.specs.Tests.{both-true}
-use Rattle.network.specs.Facts.{few-buses, few-sources, first-feeder, bus-volts}
+use Rattle.network.specs.Facts.{few-sources, first-feeder, bus-volts}
 use Rattle.network.specs.Grid.{admittanceOf, currentOf, isMachine, isConverter, machineAt, converterAt, gridOf}
-use Rattle.network.specs.Rounded.{machineBy, suppliedBy, ownBy, convertersBy, branchesBy}
+use Rattle.network.specs.Rounded.{machineBy, suppliedBy, ownBy, convertersBy}
 use Rattle.network.specs.Elements.{machineMost}
-use Rattle.network.specs.Ranges.{voltsOf, branch-impedance, near-branch, machine-near, machine-bounded, machine-volt-bounded, machine-reactive, supply-near, supply-bounded}
+use Rattle.network.specs.Ranges.{voltsOf, branch-impedance, machine-near, machine-bounded, machine-volt-bounded, machine-reactive, supply-near, supply-bounded}
 
 -- ---- sums over a list, by induction
 -- how many elements pass a test
@@ -88,12 +87,12 @@ counted-once c [] n = none n
     none (suc n) = omega (arith, none n)
 counted-once c (p ∷ l) n = omega (arith, sums-more (λ i. pick (c p && eqb (p .bus) i) 1 0) (λ i. countOf (λ q. c q && eqb (q .bus) i) l) n, sums-one (c p) (p .bus) n .1, counted-once c l n)
 
+counted-at : (c : Source → Bool) (b : ℕ) (p : Source) → c p && eqb (p .bus) b ≡ true → (c p ≡ true) × (p .bus ≡ b)
+counted-at c b p e = let t = both-true (c p) (eqb (p .bus) b) e in (t .0, eqb-true (p .bus) b (t .1))
+
 module _ {n : Network} (r : Rebuilt n) where
   -- ---- the machines at bus b
   module _ (b : ℕ) where
-    at-bus : (j : ℕ) → machineAt b (sourceAt (n .sources) j) ≡ true → (isMachine (sourceAt (n .sources) j) ≡ true) × (sourceAt (n .sources) j .bus ≡ b)
-    at-bus j e = let t = both-true (isMachine (sourceAt (n .sources) j)) (eqb (sourceAt (n .sources) j .bus) b) e in (t .0, eqb-true _ b (t .1))
-
     room : length (n .sources) ≤ 256
     room = few-sources r
 
@@ -101,7 +100,7 @@ module _ {n : Network} (r : Rebuilt n) where
     own-held =
         let m = room in
         sum-held (machineAt b) (admittanceOf n) (machineBy n) blankSource (n .sources) (2 ^ 60) 1 (2 ^ 100) 45 (lit< tt) (lit≤ tt) (le-trans (mul-le-mul (le-refl (2 ^ 100)) m) (lit≤ tt)) (omega arith)
-        (λ j l e. let t = at-bus j e in (machine-bounded r j l (t .0), machine-near r j l (t .0)))
+        (λ j l e. let t = counted-at isMachine b (sourceAt (n .sources) j) e in (machine-bounded r j l (t .0), machine-near r j l (t .0)))
 
     pub own-near : Held 1069 (gridOf n .own b) (ownBy n b)
     own-near = let m = room in held-more (45 + 4 * length (n .sources)) 1069 _ _ (omega arith) (own-held .1)
@@ -120,7 +119,7 @@ module _ {n : Network} (r : Rebuilt n) where
     own-volts =
         most-more (voltsOf n b) (0 + machineMost * countOf (machineAt b) (n .sources)) (machineMost * 256) _ (few (countOf (machineAt b) (n .sources)) (le-trans (count-few (machineAt b) (n .sources)) room))
         (counted (machineAt b) (admittanceOf n) blankSource (voltsOf n b) machineMost (n .sources)
-        (λ j l e. let t = at-bus j e in subst (λ (c : ℕ). AtMost (voltsOf n c) machineMost (admittanceOf n (sourceAt (n .sources) j))) (t .1) (machine-volt-bounded r j l (t .0) .most))
+        (λ j l e. let t = counted-at isMachine b (sourceAt (n .sources) j) e in subst (λ (c : ℕ). AtMost (voltsOf n c) machineMost (admittanceOf n (sourceAt (n .sources) j))) (t .1) (machine-volt-bounded r j l (t .0) .most))
         0 nothing (omega arith))
       where
         few : (k : ℕ) → k ≤ 256 → 0 + machineMost * k ≤ machineMost * 256
@@ -156,17 +155,14 @@ module _ {n : Network} (r : Rebuilt n) where
 
   -- ---- the converters at bus b
   module _ (b : ℕ) where
-    supplied-at : (j : ℕ) → converterAt b (sourceAt (n .sources) j) ≡ true → (isConverter (sourceAt (n .sources) j) ≡ true) × (sourceAt (n .sources) j .bus ≡ b)
-    supplied-at j e = let t = both-true (isConverter (sourceAt (n .sources) j)) (eqb (sourceAt (n .sources) j .bus) b) e in (t .0, eqb-true _ b (t .1))
-
     bounded-at : (j : ℕ) → j < length (n .sources) → converterAt b (sourceAt (n .sources) j) ≡ true → Bounded (2 ^ 20) (voltsOf n b) (2 ^ 34) (currentOf (sourceAt (n .sources) j))
-    bounded-at j l e = let t = supplied-at j e in subst (λ (c : ℕ). Bounded (2 ^ 20) (voltsOf n c) (2 ^ 34) (currentOf (sourceAt (n .sources) j))) (t .1) (supply-bounded r j l (t .0))
+    bounded-at j l e = let t = counted-at isConverter b (sourceAt (n .sources) j) e in subst (λ (c : ℕ). Bounded (2 ^ 20) (voltsOf n c) (2 ^ 34) (currentOf (sourceAt (n .sources) j))) (t .1) (supply-bounded r j l (t .0))
 
     supply-held : 0 < voltsOf n b → Bounded (2 ^ 20) (voltsOf n b) (2 ^ 34 * length (n .sources)) (gridOf n .current b) × Held (8 + 4 * length (n .sources)) (gridOf n .current b) (convertersBy n b)
     supply-held z =
         let m : length (n .sources) ≤ 256 = few-sources r in
         sum-held (converterAt b) currentOf suppliedBy blankSource (n .sources) (2 ^ 20) (voltsOf n b) (2 ^ 34) 8 z (lit≤ tt) (le-trans (mul-le-mul (le-refl (2 ^ 34)) m) (lit≤ tt)) (omega arith)
-        (λ j l e. (bounded-at j l e, supply-near r j l (supplied-at j e .0)))
+        (λ j l e. (bounded-at j l e, supply-near r j l (counted-at isConverter b (sourceAt (n .sources) j) e .0)))
 
     pub current-near : 0 < voltsOf n b → Held 1032 (gridOf n .current b) (convertersBy n b)
     current-near z = let m : length (n .sources) ≤ 256 = few-sources r in held-more (8 + 4 * length (n .sources)) 1032 _ _ (omega arith) (supply-held z .1)

@@ -1,4 +1,4 @@
--- The columns that a query reads off a study once, and the tree that they stand for.
+-- The columns that a query makes of a study, each one once, and the tree that they stand for.
 use Prim.Native.Nat.{ℕ}
 use mathlib.Core.Bool.{Bool, cond, _&&_}
 use mathlib.Core.List.{List}

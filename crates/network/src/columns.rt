@@ -1,4 +1,4 @@
-// The columns of a query: what the walk over the tree reads of a study, copied once into arrays that it lends on.
+// The columns of a query: what the walks over the tree read of a study, a number or a point for each bus. `amperes_at` makes each one once.
 ghost use mathlib.Core.Path.{_≡_};
 ghost use Prim.Native.Nat.{ℕ, _<_};
 ghost use lib.ListN.{getD};
@@ -14,8 +14,7 @@ use crate::bus_total;
 use crate::records::branch_impedance;
 use crate::records::converter_current;
 use crate::records::machine_admittance;
-use crate::records::rated_above;
-use crate::records::rated_below;
+use crate::records::rated_volts;
 use crate::source_total;
 use enclosure::Complex;
 use enclosure::add;
@@ -41,8 +40,8 @@ fn entry_of(entry: Entry, b: Bus) -> u32
     match entry {
         Entry::Parent => b.parent,
         Entry::Volts => b.volts,
-        Entry::Above => rated_above(b),
-        Entry::Below => rated_below(b),
+        Entry::Above => rated_volts(b.kind, b.f1),
+        Entry::Below => rated_volts(b.kind, b.f2),
     }
 }
 
@@ -85,18 +84,18 @@ pub fn point_at(re: &[f64; BUSES], im: &[f64; BUSES], i: usize) -> Complex
     nothing()
 }
 
-// The impedances of the branches, each on its bus's own side.
-pub fn branches(s: Study) -> Points
+// The impedances of the branches, each on its bus's own side, by the column of nominal volts.
+pub fn branches(s: Study, volts: &[u32; BUSES]) -> Points
+    requires { ⌜ ((i : ℕ) → i < maxBuses → getD (now volts) i 0 ≡ busAt (network s .buses) i .volts) ⌝ }
     ensures { λ r. ⌜ ((i : ℕ) → i < maxBuses → pointAt (r .re) (r .im) i ≡ branchesBy (network s) i) ⌝ }
 {
-    let volts = column(s, Entry::Volts);
     let mut re = [0.0; BUSES];
     let mut im = [0.0; BUSES];
     let n = bus_total(s);
     let mut i = 0;
     while i < n {
         let b = s.buses[i];
-        let parent_volts = number_at(&volts, b.parent as usize);
+        let parent_volts = number_at(volts, b.parent as usize);
         let z = branch_impedance(s.tolerance, parent_volts, b);
         re[i] = z.re;
         im[i] = z.im;
@@ -123,11 +122,11 @@ fn given_by(converters: bool, tolerance: u32, volts: u32, p: Source) -> Complex
     }
 }
 
-// What stands at each bus: the sum of its converters' currents, or of its machines' admittances.
-pub fn standing_at(s: Study, converters: bool) -> Points
+// What stands at each bus, by the column of nominal volts: the sum of its converters' currents, or of its machines' admittances.
+pub fn standing_at(s: Study, volts: &[u32; BUSES], converters: bool) -> Points
+    requires { ⌜ ((i : ℕ) → i < maxBuses → getD (now volts) i 0 ≡ busAt (network s .buses) i .volts) ⌝ }
     ensures { λ r. ⌜ ((b : ℕ) → b < maxBuses → pointAt (r .re) (r .im) b ≡ standing converters (network s) b) ⌝ }
 {
-    let volts = column(s, Entry::Volts);
     let mut re = [0.0; BUSES];
     let mut im = [0.0; BUSES];
     let n = source_total(s);
@@ -136,7 +135,7 @@ pub fn standing_at(s: Study, converters: bool) -> Points
         let p = s.sources[j];
         let b = p.bus as usize;
         if (b < BUSES) & counts_as(converters, p) {
-            let more = given_by(converters, s.tolerance, number_at(&volts, b), p);
+            let more = given_by(converters, s.tolerance, number_at(volts, b), p);
             let total = add(point_at(&re, &im, b), more);
             re[b] = total.re;
             im[b] = total.im;

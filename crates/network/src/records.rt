@@ -1,8 +1,9 @@
 // What a record stands for in the tree: a branch's impedance and rated volts, a machine's admittance, a converter's current.
 ghost use mathlib.Core.Path.{_≡_};
+ghost use mathlib.Core.Bool.{cond};
 ghost use Prim.Native.Nat.{min};
+ghost use lib.Dec.{eqb};
 ghost use Rattle.network.specs.declared.Bus.{Bus};
-ghost use Rattle.network.specs.Grid.{aboveOf, belowOf};
 ghost use Rattle.network.specs.Rounded.{branchBy, admittanceBy, suppliedBy};
 use crate::Bus;
 use crate::Source;
@@ -42,18 +43,11 @@ pub fn branch_impedance(tolerance: u32, parent_volts: u32, b: Bus) -> Complex
     }
 }
 
-// Rated volts of a bus's branch on the parent's side; 1 for a line.
-pub fn rated_above(b: Bus) -> u32
-    ensures { λ r. ⌜ r ≡ aboveOf b ⌝ }
+// Rated volts on one side of a branch of this kind: those of a transformer's record, 1 for a line.
+pub fn rated_volts(kind: u32, volts: u32) -> u32
+    ensures { λ r. ⌜ r ≡ cond (eqb kind 2) volts 1 ⌝ }
 {
-    if b.kind == 2 { b.f1 } else { 1 }
-}
-
-// Rated volts of a bus's branch on the bus's own side; 1 for a line.
-pub fn rated_below(b: Bus) -> u32
-    ensures { λ r. ⌜ r ≡ belowOf b ⌝ }
-{
-    if b.kind == 2 { b.f2 } else { 1 }
+    if kind == 2 { volts } else { 1 }
 }
 
 // The admittance of a feeder, generator or motor at a bus of these nominal volts.

@@ -4,13 +4,14 @@ use mathlib.Core.Bool.{true, false}
 use Prim.Native.Nat.{ℕ, _≤_, _<_}
 use native.Mathlib.Omega.{arith}
 use lib.ListN.{length}
-use borrow.Author.Tests.{ne-eqb, lt-ltb, le-ltb, not-true, not-false}
+use borrow.Author.Tests.{ne-eqb, le-ltb, not-true, not-false}
 use Rattle.enclosure.specs.Units.{ofNat}
 use Rattle.network.specs.declared.Bus.{Bus}
 use Rattle.network.specs.declared.Amperes.{Amperes}
 use Rattle.network.specs.declared.Verdict.the-variants.{Close}
 use Rattle.network.specs.Network.{Network, maxBuses, network, blank}
 use Rattle.network.specs.Verdict.{verdictOf}
+use Rattle.network.specs.VerdictLaw.{query-accepted}
 use Rattle.network.specs.Query.{queryNumber, noAmperes, amperesGiven, verdictGiven}
 use Rattle.network.proofs.Lists.{length-mapped, within-array, read-counted}
 use borrow.Author.Needs.{needs}
@@ -25,10 +26,6 @@ not-closed n b e = rw e
 absent : (n : Network) (b : ℕ) → n .closed ≡ true → length (n .buses) ≤ b → queryNumber n b ≡ 15
 unfolding queryNumber
 absent n b e h = rw (e, le-ltb b (length (n .buses)) h)
-
-found : (n : Network) (b : ℕ) → n .closed ≡ true → b < length (n .buses) → queryNumber n b ≡ 0
-unfolding queryNumber
-found n b e h = rw (e, lt-ltb b (length (n .buses)) h)
 
 no-figures : (n : Network) (b k : ℕ) → queryNumber n b ≡ k → (k ≡ 0 → ⊥) → (amperesGiven n b ≡ noAmperes) × (verdictGiven n b ≡ Close)
 unfolding amperesGiven verdictGiven
@@ -92,7 +89,7 @@ returns-3 c =
     let d = c .before .before .before .before .before in
     let a = d .before .before .before .args in
     let n = network (a .t1) in
-    let e = found n (a .bus) (not-false _ (d .before .before .if1 .left)) (inside d) in
+    let e = query-accepted n (a .bus) (not-false _ (d .before .before .if1 .left)) (inside d) in
     let b = read-counted maxBuses (a .t1 .«bus_count») (a .t1 .buses) (whole (d .before .before .before)) (a .bus) blank (inside d) in
     let f = c .before .before .before .amperes-at .ensures in (
       sym e,

@@ -19,14 +19,11 @@ abbrev branchOf : Study → Bus → Complex
 branchOf s b = branchBy (s .tolerance) (busAt (network s .buses) (b .parent)) b
 
 abbrev Inv-loop : tie.InvT-loop
-Inv-loop s volts re₀ im₀ n i₀ re im i =
+Inv-loop volts s re₀ im₀ n i₀ re im i =
     (i ≤ n) × (Filled (λ b. branchOf s b .re) blank nan (take i (network s .buses)) re × Filled (λ b. branchOf s b .im) blank nan (take i (network s .buses)) im)
 
 abbrev μ-loop : tie.MeasureT-loop
-μ-loop s volts re₀ im₀ n i₀ re im i = n - i
-
-column-requires : tie.Need-column-requires Inv-loop μ-loop
-column-requires c κs = search needs
+μ-loop volts s re₀ im₀ n i₀ re im i = n - i
 
 bus-total-requires : tie.Need-bus-total-requires Inv-loop μ-loop
 bus-total-requires c κs = search needs
@@ -34,13 +31,13 @@ bus-total-requires c κs = search needs
 loop-holds : tie.Need-loop-holds Inv-loop μ-loop
 unfolding branchBy
 loop-holds c =
-    let s = c .before .before .args .t1 in
+    let s = c .before .args .t1 in
     (omega arith, (filled-none (λ (b : Bus). branchOf s b .re) blank nan _ refl, filled-none (λ (b : Bus). branchOf s b .im) blank nan _ refl))
 
 -- the bus of a turn
-inside : (c : tie.In-loop Inv-loop μ-loop) → (c .before .loop .i < length (network (c .before .before .before .before .args .t1) .buses)) × (c .before .loop .i < maxBuses)
+inside : (c : tie.In-loop Inv-loop μ-loop) → (c .before .loop .i < length (network (c .before .before .before .args .t1) .buses)) × (c .before .loop .i < maxBuses)
 inside c =
-    let s = c .before .before .before .before .args .t1 in
+    let s = c .before .before .before .args .t1 in
     let h : length (s .buses) ≡ maxBuses = search (needs, length-mapped) in
     let m : c .before .loop .i < length (network s .buses) = omega (arith, c .before .before .bus-total .ensures, c .loop-test .taken) in
     (m, within-array maxBuses (s .«bus_count») (s .buses) h (c .before .loop .i) m)
@@ -61,16 +58,16 @@ branch-impedance-requires : tie.Need-branch-impedance-requires Inv-loop μ-loop
 branch-impedance-requires c κs = search needs
 
 mul-re : tie.Need-mul-re Inv-loop μ-loop
-mul-re c = omega (arith, inside (c .before .before .before .before .before) .1)
+mul-re c = omega (arith, inside (c .before .before .before .before) .1)
 
 array-write-re : tie.Need-array-write-re Inv-loop μ-loop
-array-write-re c = inside (c .before .before .before .before .before) .1
+array-write-re c = inside (c .before .before .before .before) .1
 
 mul-im : tie.Need-mul-im Inv-loop μ-loop
-mul-im c = omega (arith, inside (c .before .before .before .before .before) .1)
+mul-im c = omega (arith, inside (c .before .before .before .before) .1)
 
 array-write-im : tie.Need-array-write-im Inv-loop μ-loop
-array-write-im c = inside (c .before .before .before .before .before) .1
+array-write-im c = inside (c .before .before .before .before) .1
 
 add-i : tie.Need-add-i Inv-loop μ-loop
 add-i c = omega arith
@@ -80,13 +77,13 @@ loop-less c = omega arith
 
 loop-again : tie.Need-loop-again Inv-loop μ-loop
 loop-again c =
-    let l = c .before .before .before .before .before .before .loop in
-    let s = c .before .before .before .before .before .before .before .before .before .args .t1 in
+    let l = c .before .before .before .before .before .loop in
+    let a = c .before .before .before .before .before .before .before in
+    let s = a .args .t1 in
     let h : length (s .buses) ≡ maxBuses = search (needs, length-mapped) in
-    let m = inside (c .before .before .before .before .before) in
+    let m = inside (c .before .before .before .before) in
     let b = busAt (s .buses) (l .i) in
-    let k = c .before .before .before .before .before .before .before .before .column in
-    let v : c .before .number-at .result ≡ busAt (network s .buses) (b .parent) .volts = c .before .number-at .ensures ∙ filled-number (λ (b : Bus). b .volts) blank (network s .buses) (k .result) refl (count-most maxBuses (s .«bus_count») (s .buses) h) (k .ensures) (b .parent) in
+    let v : c .before .number-at .result ≡ busAt (network s .buses) (b .parent) .volts = c .before .number-at .ensures ∙ filled-number (λ (b : Bus). b .volts) blank (network s .buses) (a .args .volts .now) refl (count-most maxBuses (s .«bus_count») (s .buses) h) (a .pre) (b .parent) in
     let e : c .branch-impedance .result ≡ branchOf s (busAt (network s .buses) (l .i)) = c .branch-impedance .ensures (busAt (network s .buses) (b .parent)) (sym v) ∙ ap (branchOf s) (read-counted maxBuses (s .«bus_count») (s .buses) h (l .i) blank (m .0)) in (
       omega arith,
       (
@@ -98,7 +95,7 @@ loop-again c =
 returns : tie.Need-returns Inv-loop μ-loop
 returns c =
     let l = c .before .loop in
-    let s = c .before .before .before .before .args .t1 in
+    let s = c .before .before .before .args .t1 in
     let m : length (network s .buses) ≤ l .i = omega (arith, c .before .before .bus-total .ensures, c .loop-test .left) in
     λ i h. point-of (l .re) (l .im) i _ h (filled-all (λ (b : Bus). branchOf s b .re) blank nan (network s .buses) (l .re) (l .i) m (l .inv .1 .0) .1 i h) (filled-all (λ (b : Bus). branchOf s b .im) blank nan (network s .buses) (l .im) (l .i) m (l .inv .1 .1) .1 i h)
 
@@ -108,7 +105,6 @@ branches-spec =
     (tie.spec
     Inv-loop
     μ-loop
-    column-requires
     bus-total-requires
     loop-holds
     mul-b

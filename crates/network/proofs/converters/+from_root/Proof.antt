@@ -25,107 +25,39 @@ abbrev from-root-below : ℕ → In 3 from-root-kinds.ps
 from-root-below t =
     and 3 from-root-kinds.ps (falls 3 from-root-kinds.ps _<_ μ-from-root t) from-root.Pre
 
-from-root-parent-of-requires : (t : ℕ) → from-root-lts.Need-parent-of-requires (
-  parent-of-reads.Asked,
-  parent-of-reads.Learnt,
-  from-root-below t,
-  from-root.Post,
-  number-at-reads.Asked,
-  number-at-reads.Learnt,
-  scale-reads.Asked,
-  scale-reads.Learnt,
-) (from-root-at t) from-root.Post
+-- what each callee asks and gives, the function itself at a smaller measure
+abbrev from-root-claims : ℕ → from-root-lts.Claims
+from-root-claims t = (parent-of-reads.Asked, parent-of-reads.Learnt, from-root-below t, from-root.Post, number-at-reads.Asked, number-at-reads.Learnt, scale-reads.Asked, scale-reads.Learnt)
+
+from-root-parent-of-requires : (t : ℕ) → from-root-lts.Need-parent-of-requires (from-root-claims t) (from-root-at t) from-root.Post
 from-root-parent-of-requires t c κs = tt
 
-from-root-from-root-requires : (t : ℕ) → from-root-lts.Need-from-root-requires (
-  parent-of-reads.Asked,
-  parent-of-reads.Learnt,
-  from-root-below t,
-  from-root.Post,
-  number-at-reads.Asked,
-  number-at-reads.Learnt,
-  scale-reads.Asked,
-  scale-reads.Learnt,
-) (from-root-at t) from-root.Post
+from-root-from-root-requires : (t : ℕ) → from-root-lts.Need-from-root-requires (from-root-claims t) (from-root-at t) from-root.Post
 from-root-from-root-requires t c κs = (omega (arith, c .before .before .pre .0, c .if1 .taken), tt)
 
-from-root-number-at-requires : (t : ℕ) → from-root-lts.Need-number-at-requires (
-  parent-of-reads.Asked,
-  parent-of-reads.Learnt,
-  from-root-below t,
-  from-root.Post,
-  number-at-reads.Asked,
-  number-at-reads.Learnt,
-  scale-reads.Asked,
-  scale-reads.Learnt,
-) (from-root-at t) from-root.Post
+from-root-number-at-requires : (t : ℕ) → from-root-lts.Need-number-at-requires (from-root-claims t) (from-root-at t) from-root.Post
 from-root-number-at-requires t c κs = tt
 
-from-root-number-at-requires-2 : (t : ℕ) → from-root-lts.Need-number-at-requires-2 (
-  parent-of-reads.Asked,
-  parent-of-reads.Learnt,
-  from-root-below t,
-  from-root.Post,
-  number-at-reads.Asked,
-  number-at-reads.Learnt,
-  scale-reads.Asked,
-  scale-reads.Learnt,
-) (from-root-at t) from-root.Post
+from-root-number-at-requires-2 : (t : ℕ) → from-root-lts.Need-number-at-requires-2 (from-root-claims t) (from-root-at t) from-root.Post
 from-root-number-at-requires-2 t c κs = tt
 
-from-root-scale-requires : (t : ℕ) → from-root-lts.Need-scale-requires (
-  parent-of-reads.Asked,
-  parent-of-reads.Learnt,
-  from-root-below t,
-  from-root.Post,
-  number-at-reads.Asked,
-  number-at-reads.Learnt,
-  scale-reads.Asked,
-  scale-reads.Learnt,
-) (from-root-at t) from-root.Post
+from-root-scale-requires : (t : ℕ) → from-root-lts.Need-scale-requires (from-root-claims t) (from-root-at t) from-root.Post
 from-root-scale-requires t c κs = tt
 
-from-root-returns : (t : ℕ) → from-root-lts.Need-returns (
-  parent-of-reads.Asked,
-  parent-of-reads.Learnt,
-  from-root-below t,
-  from-root.Post,
-  number-at-reads.Asked,
-  number-at-reads.Learnt,
-  scale-reads.Asked,
-  scale-reads.Learnt,
-) (from-root-at t) from-root.Post
+from-root-returns : (t : ℕ) → from-root-lts.Need-returns (from-root-claims t) (from-root-at t) from-root.Post
 from-root-returns t c =
     let a = c .before .before .before .before .before .before .args in
     let p = c .before .before .before .before .before .parent-of in
     let h : numberAt (a .parents .now) (a .b) < a .b = omega (arith, p .ensures, c .before .before .before .before .if1 .taken) in
     λ n. rw (fromRoot-more doubles (tableGrid n (a .parents .now) (a .above .now) (a .below .now)) (a .b) (a .x) h, ← p .ensures, ← c .before .before .before .from-root .ensures n, ← c .before .before .number-at .ensures, ← c .before .number-at2 .ensures) (c .scale .ensures)
 
-from-root-returns-2 : (t : ℕ) → from-root-lts.Need-returns-2 (
-  parent-of-reads.Asked,
-  parent-of-reads.Learnt,
-  from-root-below t,
-  from-root.Post,
-  number-at-reads.Asked,
-  number-at-reads.Learnt,
-  scale-reads.Asked,
-  scale-reads.Learnt,
-) (from-root-at t) from-root.Post
+from-root-returns-2 : (t : ℕ) → from-root-lts.Need-returns-2 (from-root-claims t) (from-root-at t) from-root.Post
 from-root-returns-2 t c =
     let a = c .before .before .args in
     λ n. sym (fromRoot-end doubles (tableGrid n (a .parents .now) (a .above .now) (a .below .now)) (a .b) (a .x) (omega (arith, c .before .parent-of .ensures, c .if1 .left)))
 
 pub +from-root-spec : {M : Type 1} → statement M
-+from-root-spec = close μ-from-root λ t. from-root-lts.spec (
-  parent-of-reads.Asked,
-  parent-of-reads.Learnt,
-  from-root-below t,
-  from-root.Post,
-  number-at-reads.Asked,
-  number-at-reads.Learnt,
-  scale-reads.Asked,
-  scale-reads.Learnt,
-)
++from-root-spec = close μ-from-root λ t. from-root-lts.spec (from-root-claims t)
     (from-root-at t)
     from-root.Post
     (from-root-parent-of-requires t)

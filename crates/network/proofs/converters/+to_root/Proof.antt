@@ -24,108 +24,40 @@ to-root-at t = and 3 to-root-kinds.ps (is 3 to-root-kinds.ps μ-to-root t) to-ro
 abbrev to-root-below : ℕ → In 3 to-root-kinds.ps
 to-root-below t = and 3 to-root-kinds.ps (falls 3 to-root-kinds.ps _<_ μ-to-root t) to-root.Pre
 
-to-root-parent-of-requires : (t : ℕ) → to-root-lts.Need-parent-of-requires (
-  parent-of-reads.Asked,
-  parent-of-reads.Learnt,
-  number-at-reads.Asked,
-  number-at-reads.Learnt,
-  scale-reads.Asked,
-  scale-reads.Learnt,
-  to-root-below t,
-  to-root.Post,
-) (to-root-at t) to-root.Post
+-- what each callee asks and gives, the function itself at a smaller measure
+abbrev to-root-claims : ℕ → to-root-lts.Claims
+to-root-claims t = (parent-of-reads.Asked, parent-of-reads.Learnt, number-at-reads.Asked, number-at-reads.Learnt, scale-reads.Asked, scale-reads.Learnt, to-root-below t, to-root.Post)
+
+to-root-parent-of-requires : (t : ℕ) → to-root-lts.Need-parent-of-requires (to-root-claims t) (to-root-at t) to-root.Post
 to-root-parent-of-requires t c κs = tt
 
-to-root-number-at-requires : (t : ℕ) → to-root-lts.Need-number-at-requires (
-  parent-of-reads.Asked,
-  parent-of-reads.Learnt,
-  number-at-reads.Asked,
-  number-at-reads.Learnt,
-  scale-reads.Asked,
-  scale-reads.Learnt,
-  to-root-below t,
-  to-root.Post,
-) (to-root-at t) to-root.Post
+to-root-number-at-requires : (t : ℕ) → to-root-lts.Need-number-at-requires (to-root-claims t) (to-root-at t) to-root.Post
 to-root-number-at-requires t c κs = tt
 
-to-root-number-at-requires-2 : (t : ℕ) → to-root-lts.Need-number-at-requires-2 (
-  parent-of-reads.Asked,
-  parent-of-reads.Learnt,
-  number-at-reads.Asked,
-  number-at-reads.Learnt,
-  scale-reads.Asked,
-  scale-reads.Learnt,
-  to-root-below t,
-  to-root.Post,
-) (to-root-at t) to-root.Post
+to-root-number-at-requires-2 : (t : ℕ) → to-root-lts.Need-number-at-requires-2 (to-root-claims t) (to-root-at t) to-root.Post
 to-root-number-at-requires-2 t c κs = tt
 
-to-root-scale-requires : (t : ℕ) → to-root-lts.Need-scale-requires (
-  parent-of-reads.Asked,
-  parent-of-reads.Learnt,
-  number-at-reads.Asked,
-  number-at-reads.Learnt,
-  scale-reads.Asked,
-  scale-reads.Learnt,
-  to-root-below t,
-  to-root.Post,
-) (to-root-at t) to-root.Post
+to-root-scale-requires : (t : ℕ) → to-root-lts.Need-scale-requires (to-root-claims t) (to-root-at t) to-root.Post
 to-root-scale-requires t c κs = tt
 
-to-root-to-root-requires : (t : ℕ) → to-root-lts.Need-to-root-requires (
-  parent-of-reads.Asked,
-  parent-of-reads.Learnt,
-  number-at-reads.Asked,
-  number-at-reads.Learnt,
-  scale-reads.Asked,
-  scale-reads.Learnt,
-  to-root-below t,
-  to-root.Post,
-) (to-root-at t) to-root.Post
+to-root-to-root-requires : (t : ℕ) → to-root-lts.Need-to-root-requires (to-root-claims t) (to-root-at t) to-root.Post
 to-root-to-root-requires t c κs =
     (omega (arith, c .before .before .before .before .before .pre .0, c .before .before .before .if1 .taken), tt)
 
-to-root-returns : (t : ℕ) → to-root-lts.Need-returns (
-  parent-of-reads.Asked,
-  parent-of-reads.Learnt,
-  number-at-reads.Asked,
-  number-at-reads.Learnt,
-  scale-reads.Asked,
-  scale-reads.Learnt,
-  to-root-below t,
-  to-root.Post,
-) (to-root-at t) to-root.Post
+to-root-returns : (t : ℕ) → to-root-lts.Need-returns (to-root-claims t) (to-root-at t) to-root.Post
 to-root-returns t c =
     let a = c .before .before .before .before .before .before .args in
     let p = c .before .before .before .before .before .parent-of in
     let h : numberAt (a .parents .now) (a .b) < a .b = omega (arith, p .ensures, c .before .before .before .before .if1 .taken) in
     λ n. rw (toRoot-more doubles (tableGrid n (a .parents .now) (a .above .now) (a .below .now)) (a .b) (a .x) h, ← p .ensures, ← c .before .before .before .number-at .ensures, ← c .before .before .number-at2 .ensures, ← c .before .scale .ensures) (c .to-root .ensures n)
 
-to-root-returns-2 : (t : ℕ) → to-root-lts.Need-returns-2 (
-  parent-of-reads.Asked,
-  parent-of-reads.Learnt,
-  number-at-reads.Asked,
-  number-at-reads.Learnt,
-  scale-reads.Asked,
-  scale-reads.Learnt,
-  to-root-below t,
-  to-root.Post,
-) (to-root-at t) to-root.Post
+to-root-returns-2 : (t : ℕ) → to-root-lts.Need-returns-2 (to-root-claims t) (to-root-at t) to-root.Post
 to-root-returns-2 t c =
     let a = c .before .before .args in
     λ n. sym (toRoot-end doubles (tableGrid n (a .parents .now) (a .above .now) (a .below .now)) (a .b) (a .x) (omega (arith, c .before .parent-of .ensures, c .if1 .left)))
 
 pub +to-root-spec : {M : Type 1} → statement M
-+to-root-spec = close μ-to-root λ t. to-root-lts.spec (
-  parent-of-reads.Asked,
-  parent-of-reads.Learnt,
-  number-at-reads.Asked,
-  number-at-reads.Learnt,
-  scale-reads.Asked,
-  scale-reads.Learnt,
-  to-root-below t,
-  to-root.Post,
-)
++to-root-spec = close μ-to-root λ t. to-root-lts.spec (to-root-claims t)
     (to-root-at t)
     to-root.Post
     (to-root-parent-of-requires t)

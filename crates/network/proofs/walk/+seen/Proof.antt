@@ -29,6 +29,10 @@ seen-at t = and 7 seen-kinds.ps (is 7 seen-kinds.ps μ-seen t) seen.Pre
 abbrev seen-below : ℕ → In 7 seen-kinds.ps
 seen-below t = and 7 seen-kinds.ps (falls 7 seen-kinds.ps _<_ μ-seen t) seen.Pre
 
+-- what each callee asks and gives, the function itself at a smaller measure
+abbrev seen-claims : ℕ → seen-lts.Claims
+seen-claims t = (point-at-reads.Asked, point-at-reads.Learnt, joins-reads.Asked, joins-reads.Learnt, seen-below t, seen.Post, seen-through-reads.Asked, seen-through-reads.Learnt, add-reads.Asked, add-reads.Learnt)
+
 -- what the buses below i add at b without w
 abbrev gathered : (ℕ → Complex) → (ℕ → Complex) → Grid → ℕ → ℕ → ℕ → ℕ → Complex
 gathered z own G fuel b w = over added (near (parentOf G) b w) (λ j. through doubles z G b j (seenBy doubles z own G (fuel - 1) j b)) (own b)
@@ -40,159 +44,38 @@ seen-Inv-loop parents above below z-re z-im own-re own-im n fuel b w total₀ i�
 abbrev seen-μ-loop : seen-lts.MeasureT-loop
 seen-μ-loop parents above below z-re z-im own-re own-im n fuel b w total₀ i₀ total i = n - i
 
-seen-point-at-requires : (t : ℕ) → seen-lts.Need-point-at-requires (
-  point-at-reads.Asked,
-  point-at-reads.Learnt,
-  joins-reads.Asked,
-  joins-reads.Learnt,
-  seen-below t,
-  seen.Post,
-  seen-through-reads.Asked,
-  seen-through-reads.Learnt,
-  add-reads.Asked,
-  add-reads.Learnt,
-) (seen-at t) seen.Post seen-Inv-loop seen-μ-loop
+seen-point-at-requires : (t : ℕ) → seen-lts.Need-point-at-requires (seen-claims t) (seen-at t) seen.Post seen-Inv-loop seen-μ-loop
 seen-point-at-requires t c κs = tt
 
-seen-returns : (t : ℕ) → seen-lts.Need-returns (
-  point-at-reads.Asked,
-  point-at-reads.Learnt,
-  joins-reads.Asked,
-  joins-reads.Learnt,
-  seen-below t,
-  seen.Post,
-  seen-through-reads.Asked,
-  seen-through-reads.Learnt,
-  add-reads.Asked,
-  add-reads.Learnt,
-) (seen-at t) seen.Post seen-Inv-loop seen-μ-loop
+seen-returns : (t : ℕ) → seen-lts.Need-returns (seen-claims t) (seen-at t) seen.Post seen-Inv-loop seen-μ-loop
 seen-returns t c = rw (c .if1 .taken) (c .before .point-at .ensures)
 
-seen-loop-holds : (t : ℕ) → seen-lts.Need-loop-holds (
-  point-at-reads.Asked,
-  point-at-reads.Learnt,
-  joins-reads.Asked,
-  joins-reads.Learnt,
-  seen-below t,
-  seen.Post,
-  seen-through-reads.Asked,
-  seen-through-reads.Learnt,
-  add-reads.Asked,
-  add-reads.Learnt,
-) (seen-at t) seen.Post seen-Inv-loop seen-μ-loop
+seen-loop-holds : (t : ℕ) → seen-lts.Need-loop-holds (seen-claims t) (seen-at t) seen.Post seen-Inv-loop seen-μ-loop
 seen-loop-holds t c = (omega arith, c .before .point-at .ensures)
 
-seen-joins-requires : (t : ℕ) → seen-lts.Need-joins-requires (
-  point-at-reads.Asked,
-  point-at-reads.Learnt,
-  joins-reads.Asked,
-  joins-reads.Learnt,
-  seen-below t,
-  seen.Post,
-  seen-through-reads.Asked,
-  seen-through-reads.Learnt,
-  add-reads.Asked,
-  add-reads.Learnt,
-) (seen-at t) seen.Post seen-Inv-loop seen-μ-loop
+seen-joins-requires : (t : ℕ) → seen-lts.Need-joins-requires (seen-claims t) (seen-at t) seen.Post seen-Inv-loop seen-μ-loop
 seen-joins-requires t c κs = tt
 
-seen-sub-seen : (t : ℕ) → seen-lts.Need-sub-seen (
-  point-at-reads.Asked,
-  point-at-reads.Learnt,
-  joins-reads.Asked,
-  joins-reads.Learnt,
-  seen-below t,
-  seen.Post,
-  seen-through-reads.Asked,
-  seen-through-reads.Learnt,
-  add-reads.Asked,
-  add-reads.Learnt,
-) (seen-at t) seen.Post seen-Inv-loop seen-μ-loop
+seen-sub-seen : (t : ℕ) → seen-lts.Need-sub-seen (seen-claims t) (seen-at t) seen.Post seen-Inv-loop seen-μ-loop
 seen-sub-seen t c = omega (arith, c .before .before .before .before .if1 .left)
 
-seen-seen-requires : (t : ℕ) → seen-lts.Need-seen-requires (
-  point-at-reads.Asked,
-  point-at-reads.Learnt,
-  joins-reads.Asked,
-  joins-reads.Learnt,
-  seen-below t,
-  seen.Post,
-  seen-through-reads.Asked,
-  seen-through-reads.Learnt,
-  add-reads.Asked,
-  add-reads.Learnt,
-) (seen-at t) seen.Post seen-Inv-loop seen-μ-loop
+seen-seen-requires : (t : ℕ) → seen-lts.Need-seen-requires (seen-claims t) (seen-at t) seen.Post seen-Inv-loop seen-μ-loop
 seen-seen-requires t c κs =
     (omega (arith, c .before .before .before .before .before .before .pre .0, c .before .before .before .before .if1 .left), tt)
 
-seen-seen-through-requires : (t : ℕ) → seen-lts.Need-seen-through-requires (
-  point-at-reads.Asked,
-  point-at-reads.Learnt,
-  joins-reads.Asked,
-  joins-reads.Learnt,
-  seen-below t,
-  seen.Post,
-  seen-through-reads.Asked,
-  seen-through-reads.Learnt,
-  add-reads.Asked,
-  add-reads.Learnt,
-) (seen-at t) seen.Post seen-Inv-loop seen-μ-loop
+seen-seen-through-requires : (t : ℕ) → seen-lts.Need-seen-through-requires (seen-claims t) (seen-at t) seen.Post seen-Inv-loop seen-μ-loop
 seen-seen-through-requires t c κs = tt
 
-seen-add-requires : (t : ℕ) → seen-lts.Need-add-requires (
-  point-at-reads.Asked,
-  point-at-reads.Learnt,
-  joins-reads.Asked,
-  joins-reads.Learnt,
-  seen-below t,
-  seen.Post,
-  seen-through-reads.Asked,
-  seen-through-reads.Learnt,
-  add-reads.Asked,
-  add-reads.Learnt,
-) (seen-at t) seen.Post seen-Inv-loop seen-μ-loop
+seen-add-requires : (t : ℕ) → seen-lts.Need-add-requires (seen-claims t) (seen-at t) seen.Post seen-Inv-loop seen-μ-loop
 seen-add-requires t c κs = tt
 
-seen-add-i : (t : ℕ) → seen-lts.Need-add-i (
-  point-at-reads.Asked,
-  point-at-reads.Learnt,
-  joins-reads.Asked,
-  joins-reads.Learnt,
-  seen-below t,
-  seen.Post,
-  seen-through-reads.Asked,
-  seen-through-reads.Learnt,
-  add-reads.Asked,
-  add-reads.Learnt,
-) (seen-at t) seen.Post seen-Inv-loop seen-μ-loop
+seen-add-i : (t : ℕ) → seen-lts.Need-add-i (seen-claims t) (seen-at t) seen.Post seen-Inv-loop seen-μ-loop
 seen-add-i t c = record { fits = omega arith }
 
-seen-loop-less : (t : ℕ) → seen-lts.Need-loop-less (
-  point-at-reads.Asked,
-  point-at-reads.Learnt,
-  joins-reads.Asked,
-  joins-reads.Learnt,
-  seen-below t,
-  seen.Post,
-  seen-through-reads.Asked,
-  seen-through-reads.Learnt,
-  add-reads.Asked,
-  add-reads.Learnt,
-) (seen-at t) seen.Post seen-Inv-loop seen-μ-loop
+seen-loop-less : (t : ℕ) → seen-lts.Need-loop-less (seen-claims t) (seen-at t) seen.Post seen-Inv-loop seen-μ-loop
 seen-loop-less t c = omega arith
 
-seen-loop-again : (t : ℕ) → seen-lts.Need-loop-again (
-  point-at-reads.Asked,
-  point-at-reads.Learnt,
-  joins-reads.Asked,
-  joins-reads.Learnt,
-  seen-below t,
-  seen.Post,
-  seen-through-reads.Asked,
-  seen-through-reads.Learnt,
-  add-reads.Asked,
-  add-reads.Learnt,
-) (seen-at t) seen.Post seen-Inv-loop seen-μ-loop
+seen-loop-again : (t : ℕ) → seen-lts.Need-loop-again (seen-claims t) (seen-at t) seen.Post seen-Inv-loop seen-μ-loop
 seen-loop-again t c =
     let a = c .before .before .before .before .before .before .args in
     let l = c .before .before .before .loop in
@@ -209,18 +92,7 @@ seen-loop-again t c =
           (c .if2 .came),
     )
 
-seen-returns-2 : (t : ℕ) → seen-lts.Need-returns-2 (
-  point-at-reads.Asked,
-  point-at-reads.Learnt,
-  joins-reads.Asked,
-  joins-reads.Learnt,
-  seen-below t,
-  seen.Post,
-  seen-through-reads.Asked,
-  seen-through-reads.Learnt,
-  add-reads.Asked,
-  add-reads.Learnt,
-) (seen-at t) seen.Post seen-Inv-loop seen-μ-loop
+seen-returns-2 : (t : ℕ) → seen-lts.Need-returns-2 (seen-claims t) (seen-at t) seen.Post seen-Inv-loop seen-μ-loop
 seen-returns-2 t c =
     let a = c .before .before .before .before .args in
     let z = pointAt (a .z-re .now) (a .z-im .now) in
@@ -232,18 +104,7 @@ seen-returns-2 t c =
     ∙ sym (walk-more (admittances doubles z own G) (parentOf G) (a .n) (a .fuel) (a .b) (a .w) (c .before .before .if1 .left))
 
 pub +seen-spec : {M : Type 1} → statement M
-+seen-spec = close μ-seen λ t. seen-lts.spec (
-  point-at-reads.Asked,
-  point-at-reads.Learnt,
-  joins-reads.Asked,
-  joins-reads.Learnt,
-  seen-below t,
-  seen.Post,
-  seen-through-reads.Asked,
-  seen-through-reads.Learnt,
-  add-reads.Asked,
-  add-reads.Learnt,
-)
++seen-spec = close μ-seen λ t. seen-lts.spec (seen-claims t)
     (seen-at t)
     seen.Post
     seen-Inv-loop
