@@ -10,11 +10,13 @@ use crate::hex::text_of;
 use crate::words::after;
 use crate::words::begins;
 use crate::words::is;
-use network::Bus;
-use network::Source;
 use network::Study;
+use reader::BUS_FIELDS;
 use reader::Numbers;
+use reader::SOURCE_FIELDS;
+use reader::bus_of;
 use reader::numbers_of;
+use reader::source_of;
 
 // Whether these are so many numbers; says what is wrong where they are not. An eleventh field is one too many, whatever it says.
 fn takes(n: Numbers, wanted: usize) -> bool {
@@ -25,7 +27,7 @@ fn takes(n: Numbers, wanted: usize) -> bool {
         print_error(b"fields");
         return false;
     }
-    if n.count == 10 {
+    if n.count == BUS_FIELDS {
         print_error(b"fields");
     } else {
         print_error(b"number");
@@ -47,20 +49,8 @@ fn make_start(s: Study, rest: &[u8]) -> Study {
 fn make_bus(s: Study, rest: &[u8]) -> Study {
     let n = numbers_of(rest);
     let v = n.values;
-    if takes(n, 10) {
-        let b = Bus {
-            parent: v[0],
-            volts: v[1],
-            kind: v[2],
-            f1: v[3],
-            f2: v[4],
-            f3: v[5],
-            f4: v[6],
-            f5: v[7],
-            rating: v[8],
-            peak_rating: v[9],
-        };
-        let done = network::add_bus(s, b);
+    if takes(n, BUS_FIELDS) {
+        let done = network::add_bus(s, bus_of(v));
         print_number(done.number);
         return done.study;
     }
@@ -70,17 +60,8 @@ fn make_bus(s: Study, rest: &[u8]) -> Study {
 fn make_source(s: Study, rest: &[u8]) -> Study {
     let n = numbers_of(rest);
     let v = n.values;
-    if takes(n, 7) {
-        let p = Source {
-            kind: v[0],
-            bus: v[1],
-            f1: v[2],
-            f2: v[3],
-            f3: v[4],
-            f4: v[5],
-            f5: v[6],
-        };
-        let done = network::add_source(s, p);
+    if takes(n, SOURCE_FIELDS) {
+        let done = network::add_source(s, source_of(v));
         print_number(done.number);
         return done.study;
     }

@@ -18,15 +18,17 @@ use network::add_bus;
 use network::add_source;
 use network::close;
 use network::start;
+pub use rows::bus_of;
 use rows::row_end;
 use rows::row_of;
+pub use rows::source_of;
 
 // The most bytes that a text may have, and the fields of a bus row and of a source row.
 const BYTES: usize = 65_536;
 
-const BUS_FIELDS: usize = 10;
+pub const BUS_FIELDS: usize = 10;
 
-const SOURCE_FIELDS: usize = 7;
+pub const SOURCE_FIELDS: usize = 7;
 
 // What the bytes of a field say.
 pub enum Number {

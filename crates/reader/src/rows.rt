@@ -39,7 +39,7 @@ pub fn row_end(text: &[u8], at: usize) -> usize
 }
 
 // The numbers of a row as a bus record, in its fields' order.
-fn bus_of(v: [u32; BUS_FIELDS]) -> Bus
+pub fn bus_of(v: [u32; BUS_FIELDS]) -> Bus
     ensures { λ r. ⌜ r ≡ busOf v ⌝ }
 {
     Bus {
@@ -57,7 +57,7 @@ fn bus_of(v: [u32; BUS_FIELDS]) -> Bus
 }
 
 // The first numbers of a row as a source record, in its fields' order.
-fn source_of(v: [u32; BUS_FIELDS]) -> Source
+pub fn source_of(v: [u32; BUS_FIELDS]) -> Source
     ensures { λ r. ⌜ r ≡ sourceOf v ⌝ }
 {
     Source {
