@@ -1,4 +1,4 @@
-/* Times enclosing arithmetic, a call from C at a time: nanoseconds per call, the least of several runs. README.md says how to build it. */
+/* Times enclosing arithmetic, a call from C at a time: nanoseconds per call, the least of several runs. README.md says how to run it. */
 #include <stdint.h>
 #include <stdio.h>
 #include <time.h>
@@ -8,7 +8,7 @@ void enclosure_inverse(double, double, double *, double *);
 void enclosure_scale(double, double, uint32_t, uint32_t, double *, double *);
 uint64_t enclosure_root_below(double);
 
-enum { POINTS = 4096, ROUNDS = 100, RUNS = 25 };
+enum { POINTS = 4096, ROUNDS = 4, RUNS = 300 };
 
 static double re[POINTS], im[POINTS];
 static uint32_t p[POINTS], q[POINTS];

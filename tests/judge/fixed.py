@@ -146,6 +146,19 @@ def converter_paths():
     return [("converters over four voltages", draft)]
 
 
+def far_ends():
+    """Two arms of 18 short lines: the one machine of weight stands 36 branches from the end of the other arm."""
+    draft = Draft(Random(36), 10000, 6)
+    draft.feeder(1000, 0)
+    for _ in range(2):
+        bus = 0
+        for _ in range(18):
+            bus = draft.line(bus, 10, 10, 1, 8)
+    draft.generator(bus, 10000, 10**6, 1000, 0, 100)
+    draft.converter(bus, 100000, 300)
+    return [("36 branches from arm to arm", draft)]
+
+
 def ends_together():
     """All fields at their lowest, all at their highest."""
     found = []
@@ -178,6 +191,7 @@ def fixed_networks():
         + transformers()
         + voltage_borders()
         + converter_paths()
+        + far_ends()
         + ends_together()
         + drawn_once()
     )

@@ -1,7 +1,14 @@
-// The operations of enclosing arithmetic for C to time (bench/enclosure.c): a point goes in and comes out by its parts.
+// What C times: the operations of enclosing arithmetic (bench/enclosure.c), where a point goes in and comes out by its parts, and
+// reading and querying a study (bench/queries.c).
 ghost use mathlib.Core.Path.{_≡_};
+ghost use Prim.Native.Nat.{_<_};
 ghost use Rattle.enclosure.specs.Doubles.{added, inverted, scaled, rootBelow};
+ghost use Rattle.network.specs.Network.{network};
+ghost use Rattle.reader.specs.File.{readOf};
+ghost use Rattle.bench.specs.Queries.{lowersOf};
 use enclosure::Complex;
+use network::Study;
+use network::query;
 
 #[no_mangle]
 pub extern "C" fn enclosure_add(a: f64, b: f64, c: f64, d: f64, re: &mut f64, im: &mut f64)
@@ -35,4 +42,30 @@ pub extern "C" fn enclosure_root_below(m: f64) -> u64
     ensures { λ r. ⌜ r ≡ rootBelow m ⌝ }
 {
     enclosure::roots::root_below(m)
+}
+
+// The lower bounds of k queries, going round over the buses 0 to n - 1, added up.
+fn lowers(s: Study, n: u32, k: u32) -> f64
+    requires { ⌜ 0 < n ⌝ }
+    ensures { λ r. ⌜ r ≡ lowersOf (network s) n k ⌝ }
+{
+    let mut total = 0.0;
+    let mut i: u32 = 0;
+    while i < k {
+        let found = query(s, i % n);
+        let amperes = found.amperes;
+        total = total + amperes.lower.0;
+        i += 1;
+    }
+    total
+}
+
+// A text read, and k queries of its study.
+#[no_mangle]
+pub extern "C" fn network_lowers(text: &[u8], n: u32, k: u32) -> f64
+    requires { ⌜ 0 < n ⌝ }
+    ensures { λ r. ⌜ r ≡ lowersOf (readOf (now (text .entry)) .network) n k ⌝ }
+{
+    let reading = reader::read(text);
+    lowers(reading.study, n, k)
 }

@@ -1,0 +1,228 @@
+/* plain.h says what this is. */
+#include "plain.h"
+
+#include <math.h>
+
+/* One number, and past the comma or the line end behind it. */
+static double number(const char **at, const char *end)
+{
+    double n = 0;
+    const char *p = *at;
+    while (p < end && *p >= '0' && *p <= '9')
+        n = 10 * n + (*p++ - '0');
+    while (p < end && (*p == ',' || *p == '\r' || *p == '\n'))
+        p++;
+    *at = p;
+    return n;
+}
+
+static void read_bus(const char **at, const char *end, struct study *s)
+{
+    int b = s->buses++;
+    s->parent[b] = (int)number(at, end);
+    s->volts[b] = number(at, end);
+    s->branch[b] = (int)number(at, end);
+    for (int i = 0; i < FIELDS; i++)
+        s->of_branch[b][i] = number(at, end);
+    s->rating[b] = number(at, end);
+    s->peak_rating[b] = number(at, end);
+}
+
+static void read_source(const char **at, const char *end, struct study *s)
+{
+    int j = s->sources++;
+    s->source[j] = (int)number(at, end);
+    s->at[j] = (int)number(at, end);
+    for (int i = 0; i < FIELDS; i++)
+        s->of_source[j][i] = number(at, end);
+}
+
+/* The text is taken to be in order. */
+void read_study(const char *text, size_t length, struct study *s)
+{
+    const char *at = text, *end = text + length;
+    s->buses = s->sources = 0;
+    while (at + 2 < end) {
+        char letter = *at;
+        at += 2;
+        if (letter == 'S')
+            s->tolerance = number(&at, end);
+        else if (letter == 'B')
+            read_bus(&at, end, s);
+        else
+            read_source(&at, end, s);
+    }
+}
+
+static struct point times(struct point z, double t)
+{
+    return (struct point){z.re * t, z.im * t};
+}
+
+/* One over z; an admittance G - jB is kept as G and B. */
+static struct point inverse(struct point z)
+{
+    return times(z, 1 / (z.re * z.re + z.im * z.im));
+}
+
+static double factor_c(const struct study *s, double volts)
+{
+    return volts <= 1000 && s->tolerance == 6 ? 1.05 : 1.10;
+}
+
+static struct point split(double z, double rho)
+{
+    double x = z * floor(sqrt(1e16 / (10000 + rho * rho))) / 1e6;
+    return (struct point){x * rho / 100, x};
+}
+
+static struct point branch_impedance(const struct study *s, int b)
+{
+    const double *f = s->of_branch[b];
+    if (s->branch[b] == 1)
+        return times((struct point){f[0], f[1]}, f[2] / (f[3] * 1e6));
+    double ux = floor(sqrt(f[3] * f[3] - f[4] * f[4]));
+    double c = factor_c(s, fmin(s->volts[b], s->volts[s->parent[b]]));
+    double k = 0.95 * c / (1 + 0.6 * ux / 1e5);
+    return times((struct point){f[4], ux}, k / 1e5 * f[1] * f[1] / (1000 * f[2]));
+}
+
+static struct point machine_impedance(const struct study *s, int j)
+{
+    const double *f = s->of_source[j];
+    double volts = s->volts[s->at[j]], c = factor_c(s, volts);
+    if (s->source[j] == 1)
+        return split(c * volts * volts / (1000 * f[0]), f[1]);
+    if (s->source[j] == 3)
+        return split(10 / f[2] * f[0] * f[0] / (1000 * f[1]), f[3]);
+    double sine = ceil(sqrt(1e8 - 1e4 * f[4] * f[4])) / 1e4;
+    double k = volts / f[0] * c / (1 + f[2] / 1e5 * sine);
+    double x = k * f[2] / 1e5 * f[0] * f[0] / (1000 * f[1]);
+    return (struct point){x * f[3] / 100, x};
+}
+
+static void fill_columns(const struct study *s, struct columns *c)
+{
+    for (int b = 0; b < s->buses; b++) {
+        c->own[b] = (struct point){0, 0};
+        c->supplied[b] = 0;
+        c->above[b] = s->branch[b] == 2 ? s->of_branch[b][0] : 1;
+        c->below[b] = s->branch[b] == 2 ? s->of_branch[b][1] : 1;
+        if (b > 0)
+            c->z[b] = branch_impedance(s, b);
+    }
+    for (int j = 0; j < s->sources; j++) {
+        int b = s->at[j];
+        if (s->source[j] == 4) {
+            c->supplied[b] += s->of_source[j][0] * s->of_source[j][1] / 1000;
+        } else {
+            struct point y = inverse(machine_impedance(s, j));
+            c->own[b].re += y.re;
+            c->own[b].im += y.im;
+        }
+    }
+}
+
+/* The admittance y at i, seen from its neighbour b. */
+static struct point through(const struct columns *c, int b, int i, struct point y)
+{
+    struct point z = inverse(y);
+    if (i < b) {
+        double t = c->below[b] / c->above[b];
+        z = times(z, t * t);
+        return inverse((struct point){c->z[b].re + z.re, c->z[b].im + z.im});
+    }
+    double t = c->above[i] / c->below[i];
+    return inverse(times((struct point){c->z[i].re + z.re, c->z[i].im + z.im}, t * t));
+}
+
+/* The admittance at b without its neighbour w; without none is w = b. */
+static struct point seen(const struct study *s, const struct columns *c, int b, int w)
+{
+    struct point total = c->own[b];
+    for (int i = 0; i < s->buses; i++) {
+        if (i == w || i == b || (i < b ? s->parent[b] != i : s->parent[i] != b))
+            continue;
+        struct point y = seen(s, c, i, b);
+        if (y.re + y.im == 0)
+            continue;
+        y = through(c, b, i, y);
+        total.re += y.re;
+        total.im += y.im;
+    }
+    return total;
+}
+
+/* The converters' currents carried to bus 0 and added up. */
+static double gathered(const struct study *s, const struct columns *c)
+{
+    double total = 0;
+    for (int i = 0; i < s->buses; i++) {
+        double x = c->supplied[i];
+        for (int k = i; k > 0; k = s->parent[k])
+            x *= c->below[k] / c->above[k];
+        total += x;
+    }
+    return total;
+}
+
+/* The figures from the admittance at a bus and the converters' current at bus 0. */
+static struct figures figures_of(const struct study *s, const struct columns *c, int bus, struct point y, double gathered)
+{
+    double volts = s->volts[bus], converters = gathered;
+    for (int k = bus; k > 0; k = s->parent[k])
+        converters *= c->above[k] / c->below[k];
+    double machines = factor_c(s, volts) * volts * sqrt((y.re * y.re + y.im * y.im) / 3);
+    double peak = sqrt(2) * machines * (1.02 + 0.98 * exp(-3 * y.re / y.im));
+    return (struct figures){machines, converters, peak, sqrt(2) * converters};
+}
+
+struct figures plain_query(const struct study *s, int bus)
+{
+    struct columns c;
+    fill_columns(s, &c);
+    return figures_of(s, &c, bus, seen(s, &c, bus, bus), gathered(s, &c));
+}
+
+void prepare(const struct study *s, struct prepared *p)
+{
+    fill_columns(s, &p->columns);
+    p->gathered = gathered(s, &p->columns);
+    for (int b = s->buses - 1; b >= 0; b--) {
+        p->first[b] = -1;
+        for (int i = s->buses - 1; i > b; i--)
+            if (s->parent[i] == b) {
+                p->next[i] = p->first[b];
+                p->first[b] = i;
+            }
+    }
+}
+
+static struct point seen_by_lists(const struct study *s, const struct prepared *p, int b, int w);
+
+/* What b sees of its neighbour i. */
+static struct point part(const struct study *s, const struct prepared *p, int b, int i)
+{
+    struct point y = seen_by_lists(s, p, i, b);
+    return y.re + y.im == 0 ? y : through(&p->columns, b, i, y);
+}
+
+static struct point seen_by_lists(const struct study *s, const struct prepared *p, int b, int w)
+{
+    struct point total = p->columns.own[b], y;
+    if (b > 0 && s->parent[b] != w) {
+        y = part(s, p, b, s->parent[b]);
+        total = (struct point){total.re + y.re, total.im + y.im};
+    }
+    for (int i = p->first[b]; i >= 0; i = p->next[i])
+        if (i != w) {
+            y = part(s, p, b, i);
+            total = (struct point){total.re + y.re, total.im + y.im};
+        }
+    return total;
+}
+
+struct figures prepared_query(const struct study *s, const struct prepared *p, int bus)
+{
+    return figures_of(s, &p->columns, bus, seen_by_lists(s, p, bus, bus), p->gathered);
+}

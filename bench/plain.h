@@ -1,0 +1,45 @@
+/* The calculation of a network in plain doubles: the sweeps of crates/network without bounds, checks or proofs. */
+#include <stddef.h>
+
+enum { BUSES = 64, SOURCES = 256, FIELDS = 5 };
+
+struct point {
+    double re, im;
+};
+
+/* A study as its text gives it. */
+struct study {
+    double tolerance;
+    int buses, sources;
+    int parent[BUSES], branch[BUSES];
+    double volts[BUSES], of_branch[BUSES][FIELDS], rating[BUSES], peak_rating[BUSES];
+    int source[SOURCES], at[SOURCES];
+    double of_source[SOURCES][FIELDS];
+};
+
+/* What the walk reads: impedance of each branch, admittance and converters' current at each bus, rated volts of each branch. */
+struct columns {
+    struct point z[BUSES], own[BUSES];
+    double supplied[BUSES], above[BUSES], below[BUSES];
+};
+
+/* Machines' and converters' part at a bus, and their peaks. */
+struct figures {
+    double machines, converters, peak, converters_peak;
+};
+
+/* All that does not depend on the bus asked for: the columns, the children of each bus (-1 after the last), the converters at bus 0. */
+struct prepared {
+    struct columns columns;
+    int first[BUSES], next[BUSES];
+    double gathered;
+};
+
+void read_study(const char *text, size_t length, struct study *s);
+
+/* A query by the sweeps of the proved one: the columns filled, and each bus on the way looks for its neighbours among all. */
+struct figures plain_query(const struct study *s, int bus);
+
+/* The same figures with everything prepared once for all buses. */
+void prepare(const struct study *s, struct prepared *p);
+struct figures prepared_query(const struct study *s, const struct prepared *p, int bus);

@@ -1,0 +1,60 @@
+use mathlib.Core.Path.{_≡_, refl, sym, ap, ap₂, _∙_}
+use Prim.Native.Nat.{_-_, _≤_}
+use native.Mathlib.Omega.{arith}
+use lib.Ieee.{binary64, add, ofBits}
+use Rattle.network.specs.Network.{network}
+use Rattle.bench.specs.Queries.{lowersOf, lowers-more}
+use borrow.Author.Needs.{needs}
+use Rattle.bench.proofs.lowers.Statement.{statement}
+use Rattle.bench.proofs.lowers.Tie as tie
+
+abbrev Inv-loop : tie.InvT-loop
+Inv-loop s n k total₀ i₀ total i = (i ≤ k) × (total ≡ lowersOf (network s) n i)
+
+abbrev μ-loop : tie.MeasureT-loop
+μ-loop s n k total₀ i₀ total i = k - i
+
+loop-holds : tie.Need-loop-holds Inv-loop μ-loop
+unfolding lowersOf ofBits
+loop-holds c = (omega arith, refl)
+
+rem-query : tie.Need-rem-query Inv-loop μ-loop
+rem-query c = search needs
+
+query-requires : tie.Need-query-requires Inv-loop μ-loop
+query-requires c κs = search needs
+
+add-i : tie.Need-add-i Inv-loop μ-loop
+add-i c = omega arith
+
+loop-less : tie.Need-loop-less Inv-loop μ-loop
+loop-less c = omega arith
+
+loop-again : tie.Need-loop-again Inv-loop μ-loop
+loop-again c =
+    let a = c .before .before .before .before .before .args in
+    let l = c .before .before .before .before .loop in (
+      omega arith,
+      ap₂ (add binary64) (l .inv .1) (ap (λ x. x .lower .0) (c .before .before .query .ensures .1 .0))
+          ∙ sym (lowers-more (network (a .s)) (a .n) (l .i)),
+    )
+
+returns : tie.Need-returns Inv-loop μ-loop
+returns c =
+    let a = c .before .before .args in
+    let i : c .before .loop .i ≡ a .k = omega arith in
+    c .before .loop .inv .1 ∙ ap (lowersOf (network (a .s)) (a .n)) i
+
+pub lowers-spec : {M : Type 1} → statement M
+lowers-spec =
+    tie.close
+    (tie.spec
+    Inv-loop
+    μ-loop
+    loop-holds
+    rem-query
+    query-requires
+    add-i
+    loop-less
+    loop-again
+    returns)
