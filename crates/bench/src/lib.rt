@@ -1,7 +1,7 @@
 // What C times: the operations of enclosing arithmetic (bench/enclosure.c), where a point goes in and comes out by its parts, and
 // reading and querying a study (bench/queries.c).
 ghost use mathlib.Core.Path.{_≡_};
-ghost use Prim.Native.Nat.{_<_};
+ghost use Prim.Native.Nat.{_<_, _+_};
 ghost use Rattle.enclosure.specs.Doubles.{added, inverted, scaled, rootBelow};
 ghost use Rattle.network.specs.Network.{network};
 ghost use Rattle.reader.specs.File.{readOf};
@@ -60,12 +60,12 @@ fn lowers(s: Study, n: u32, k: u32) -> f64
     total
 }
 
-// A text read, and k queries of its study.
+// A text read, and k queries of its study, going round over the buses up to `last`.
 #[no_mangle]
-pub extern "C" fn network_lowers(text: &[u8], n: u32, k: u32) -> f64
-    requires { ⌜ 0 < n ⌝ }
-    ensures { λ r. ⌜ r ≡ lowersOf (readOf (now (text .entry)) .network) n k ⌝ }
+pub extern "C" fn network_lowers(text: &[u8], last: u8, k: u32) -> f64
+    ensures { λ r. ⌜ r ≡ lowersOf (readOf (now (text .entry)) .network) (last + 1) k ⌝ }
 {
     let reading = reader::read(text);
+    let n = last as u32 + 1;
     lowers(reading.study, n, k)
 }
