@@ -1,4 +1,5 @@
-// The lines that answer a call. Each is put at the start of a line, and then written.
+// The lines that answer a call. Each is put at the start of a line, and then written. That a line has its bytes is required because
+// the prover does not know the length of an array behind a reference by itself; a reason is short, so that there is room for it.
 ghost use mathlib.Core.Path.{_≡_};
 ghost use Prim.Native.Nat.{_≤_};
 ghost use lib.ListN.{length, take};

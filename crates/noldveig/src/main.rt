@@ -24,7 +24,8 @@ fn size(x: u32) -> usize {
     x as usize
 }
 
-// Puts the row of a refusal at the start of the line, and gives its length.
+// Puts the row of a refusal at the start of the line, and gives its length. What is required is what the type says: of an array
+// behind a reference the prover does not know the length by itself.
 fn put_refusal(line: &mut [u8; LINE], number: u32, row: u32) -> usize
     requires { ⌜ length (now line) ≡ room ⌝ }
     ensures { λ r. ⌜ take r (now (line .exit)) ≡ refusalRow number row ⌝ }
@@ -35,7 +36,7 @@ fn put_refusal(line: &mut [u8; LINE], number: u32, row: u32) -> usize
     put(line, place, b"\r\n")
 }
 
-// Puts the row of a bus at the start of the line, and gives its length.
+// The same for the row of a bus.
 fn put_bus(line: &mut [u8; LINE], bus: u32, found: Found) -> usize
     requires { ⌜ length (now line) ≡ room ⌝ }
     ensures { λ r. ⌜ take r (now (line .exit)) ≡ busRow bus (found .amperes) (found .verdict) ⌝ }

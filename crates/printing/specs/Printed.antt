@@ -35,6 +35,11 @@ digitsOf (suc k) n = cond (ltb n 10) ((48 + n) ∷ []) (digitsOf k (n / 10) ++ (
 unfoldable pub decimal : ℕ → List ℕ
 decimal n = digitsOf 20 n
 
+-- 0 and 7,698
+worked : (decimal 0 ≡ 48 ∷ []) × (decimal 7698 ≡ 55 ∷ 54 ∷ 57 ∷ 56 ∷ [])
+unfolding decimal
+worked = (refl, refl)
+
 abbrev pub comma : ℕ
 comma = 44
 

@@ -1,0 +1,25 @@
+-- Whole amperes below 2 ^ 53, as `query` gives them, are printed as themselves.
+use mathlib.Core.Path.{_≡_, sym, ap, _∙_}
+use mathlib.Core.Bool.{true, false, true≢false}
+use Prim.Native.Nat.{ℕ, _+_, _*_, _-_, _/_, _^_, _≤_, _<_, min}
+use native.Mathlib.Nat.{mul-one, mul-div-cancel, mul-lt-mul-of-pos-right}
+use native.Mathlib.Omega.{arith}
+use borrow.Author.Tests.{lt-ltb}
+use lib.Ieee.{Float, fin, lt, toUnsigned, up, down}
+use lib.Ieee.Fits.{down-pos}
+use lib.Ieee.Exact.{HasValue}
+use Rattle.enclosure.specs.Units.{ofNat, exact}
+use Rattle.printing.specs.Printed.{wholeOf}
+
+value-whole : (x : Float) (n : ℕ) → n < 2 ^ 64 → HasValue x false n 1 → wholeOf x ≡ n
+unfolding lt toUnsigned
+value-whole (fin true m e) n h v = absurd (true≢false (v .0))
+value-whole (fin false m e) n h v =
+    let size : m * up e ≡ n * down e = sym (mul-one (m * up e)) ∙ v .1 in
+    let above = lt-ltb 0 (1 * 1 * down e + m * up e * 1) (omega (arith, down-pos e)) in
+    let below = lt-ltb (m * up e * 1) (1 * 2 ^ 64 * down e) (omega (arith, mul-lt-mul-of-pos-right h (down-pos e))) in
+    let part : m * up e / down e ≡ n = ap (λ (z : ℕ). z / down e) size ∙ mul-div-cancel n (down-pos e) in
+    rw (above, below, part) (omega arith)
+
+pub whole-printed : (n : ℕ) → n ≤ 2 ^ 53 → wholeOf (ofNat n) ≡ n
+whole-printed n h = value-whole (ofNat n) n (omega arith) (exact n h)
