@@ -1,15 +1,15 @@
 -- From a near admittance to the machines' bounds and peak, and from a near current to the converters': they keep document 01's comparisons.
 -- Assumes nothing.
 use Prim.Native.Nat.{ℕ, zero, suc, _+_, _-_, _*_, _^_, min, _≤_, _<_}
-use mathlib.Core.Path.{_≡_, refl, sym, _∙_, ap}
+use mathlib.Core.Path.{_≡_, refl, _∙_}
 use mathlib.Core.List.{[], _∷_}
-use mathlib.Core.Logic.{_⊎_, inl, inr, ⊎-elim}
+use mathlib.Core.Logic.{inl, inr, ⊎-elim}
 use native.Mathlib.Omega.{arith}
-use native.Mathlib.Nat.{le-refl, le-trans, lt-of-not-le, mul-le-mul, mul-pos, min-eq-left}
+use native.Mathlib.Nat.{le-refl, lt-of-not-le, mul-le-mul, mul-pos, min-eq-left}
 use native.Mathlib.Numerals.{add-one}
 use lib.Dec.{le→leb, lit<, lit≤}
 use lib.Pow.{pow-mono}
-use Rattle.algebra.specs.Reading.{poly, from, from-over, read, _⊹_, _⋆_}
+use Rattle.algebra.specs.Reading.{from, from-over, read, _⊹_, _⋆_}
 use Rattle.enclosure.specs.Close.{norm}
 use Rattle.enclosure.specs.Root.{below-of-squares}
 use Rattle.enclosure.specs.Point.{Point, times, exact}
@@ -20,7 +20,7 @@ use Rattle.enclosure.specs.Steps.{parts}
 use Rattle.enclosure.specs.Units.{unit, extent}
 use Rattle.enclosure.specs.Doubles.{scaled, doubles, lowerOf, upperOf}
 use Rattle.enclosure.specs.Fair.{value, size, Fine}
-use Rattle.enclosure.specs.Range.{Between, reach, Good, Volts, doubles-fair}
+use Rattle.enclosure.specs.Range.{reach, Good, Volts, doubles-fair}
 use Rattle.enclosure.specs.Amperes.{Enclosed, Extent, encloses}
 use Rattle.elements.specs.Exponential.{tOver, tUnder, t-least, tOver-pos}
 use Rattle.elements.specs.PeakTable.{peakFactor, ceiling, ceiling-least}

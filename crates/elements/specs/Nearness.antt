@@ -1,20 +1,18 @@
 -- Each calculated impedance is within a few parts in 2 ^ 53 of the exact one, by the rules of the enclosing arithmetic.
 -- Assumes nothing.
-use Prim.Native.Nat.{ℕ, zero, suc, _+_, _*_, _^_, _≤_, _<_}
+use Prim.Native.Nat.{ℕ, _+_, _*_, _^_, _≤_, _<_}
 use mathlib.Core.Path.{_≡_, refl}
-use mathlib.Core.Bool.{Bool, true, false, _&&_}
 use mathlib.Core.List.{[], _∷_}
 use native.Mathlib.Omega.{arith}
-use native.Mathlib.Nat.{le-refl, le-trans, mul-le-mul, mul-pos}
-use lib.Dec.{leb, lit≤}
+use native.Mathlib.Nat.{mul-le-mul, mul-pos}
 use borrow.Author.Tests.{le-leb}
 use Rattle.algebra.specs.Reading.{identity, read}
-use Rattle.enclosure.specs.Point.{pick, Point, times, inverse, exact}
-use Rattle.enclosure.specs.Near.{Near, NearTo, Same, near-same, Rules, fair-rules}
+use Rattle.enclosure.specs.Point.{Point, times, inverse, exact}
+use Rattle.enclosure.specs.Near.{NearTo, Same, near-same, Rules, fair-rules}
 use Rattle.enclosure.specs.declared.Complex.{Complex}
 use Rattle.enclosure.specs.Steps.{parts}
 use Rattle.enclosure.specs.Doubles.{whole, scaled, inverted, doubles}
-use Rattle.enclosure.specs.Fair.{value, Fine}
+use Rattle.enclosure.specs.Fair.{value}
 use Rattle.enclosure.specs.Range.{Good, Volts, doubles-fair}
 use Rattle.enclosure.specs.Start.{whole-near}
 use Rattle.elements.specs.Factors.{factorC, sineOf, uxOf, ux-most, splitOf}

@@ -1,18 +1,18 @@
--- The calculated place keeps below R/X, and within a tenth of a step of it.
+-- The calculated place is not above R/X, and less than 1.1 steps below it where the table goes on.
 -- Assumes nothing.
-use Prim.Native.Nat.{ℕ, zero, suc, _+_, _-_, _*_, _^_, _≤_, _<_}
+use Prim.Native.Nat.{ℕ, zero, suc, _+_, _*_, _^_, _≤_, _<_}
 use mathlib.Core.Path.{_≡_, refl, sym, _∙_}
 use mathlib.Core.Bool.{Bool, true, false, true≢false}
 use mathlib.Core.List.{[], _∷_}
-use mathlib.Core.Logic.{_⊎_, inl, inr, ⊎-elim}
+use mathlib.Core.Logic.{⊎-elim}
 use native.Mathlib.Omega.{arith}
-use native.Mathlib.Nat.{le-refl, le-trans, le-of-lt, lt-of-not-le, mul-le-mul, mul-pos}
+use native.Mathlib.Nat.{le-trans, le-of-lt, lt-of-not-le, mul-pos}
 use lib.Dec.{ltb, le→leb, lit<, lit≤}
 use borrow.Author.Tests.{lt-ltb, le-ltb, ltb-true, ltb-false}
-use lib.Ieee.{Float, binary64, ofBits, add, mul, le}
+use lib.Ieee.{binary64, ofBits, add, mul}
 use Rattle.algebra.specs.Reading.{poly, from, from-over, read, _⊹_, _⋆_}
 use Rattle.enclosure.specs.Close.{Close, close-part, close-swap}
-use Rattle.enclosure.specs.Point.{pick, Point}
+use Rattle.enclosure.specs.Point.{Point}
 use Rattle.enclosure.specs.Near.{Near}
 use Rattle.enclosure.specs.declared.Complex.{Complex}
 use Rattle.enclosure.specs.Rounding.{Rounds}
@@ -176,7 +176,7 @@ inside y i e = go (ltb 230 i) refl
     go true h = absurd (true≢false (sym e ∙ past y i (ltb-true 230 i h)))
     go false h = ltb-false 230 i h
 
--- THE PLACE: i/100 ≤ R/X, and R/X < (i + 1.1)/100 below the table's end, for an admittance within a millionth of a millionth of P
+-- THE PLACE: i/100 ≤ R/X, and R/X < (i + 1.1)/100 below the table's end, for an admittance within 10⁶ parts in 2 ^ 53 of P
 pub place-index : (y : Complex) (k : ℕ) (P : Point) → Fine y → unit ≤ size y * extent → size y ≤ unit * extent → k ≤ 1000000 → Near parts k P (value y) → 0 < P .im → Index (P .re) (P .im) (placeOf y)
 unfolding placeOf
 place-index y k P f lo hi few near B₀ = go (climb-top (fitsAt y) 8 0 (past y 256 (lit< tt)))

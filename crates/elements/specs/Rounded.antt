@@ -1,7 +1,7 @@
 -- The element impedances as they are calculated in f64: a pair of whole numbers, and a few ratios one after the other.
 -- How near each is to its exact impedance is proved in Nearness.
 use Prim.Native.Nat.{ℕ, _+_, _*_}
-use mathlib.Core.Bool.{Bool, _&&_}
+use mathlib.Core.Bool.{_&&_}
 use lib.Dec.{leb}
 use Rattle.enclosure.specs.declared.Complex.{Complex}
 use Rattle.enclosure.specs.Point.{pick}

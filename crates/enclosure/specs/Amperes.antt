@@ -1,26 +1,25 @@
 -- Whole bounds of √(p/q)·|P|, by squares, from an f64 point near P: they hold the exact size, and they are narrow.
 -- Document 01: "a bound n is at most I exactly when 3·n²·(R² + X²) ≤ (c·Un)²". Assumes nothing.
-use Prim.Native.Nat.{ℕ, zero, suc, _+_, _-_, _*_, _^_, _≤_, _<_, zero-le}
-use mathlib.Core.Path.{_≡_, refl, sym, ap, _∙_, subst}
+use Prim.Native.Nat.{ℕ, zero, suc, _+_, _-_, _*_, _^_, _≤_, _<_}
+use mathlib.Core.Path.{_≡_, refl, sym, _∙_}
 use mathlib.Core.Bool.{Bool, true, false, _&&_, _||_, true≢false}
 use mathlib.Core.List.{[], _∷_}
 use mathlib.Core.Logic.{_⊎_, inl, inr, ⊎-elim}
 use native.Mathlib.Omega.{arith}
-use native.Mathlib.Nat.{le-refl, le-trans, le-of-lt, le-of-eq, mul-le-mul, mul-pos, lt-of-not-le, le-of-mul-le-mul-right}
-use lib.Pow.{pow-pos}
+use native.Mathlib.Nat.{le-refl, le-trans, le-of-lt, le-of-eq, le-dest, mul-add, mul-le-mul, mul-pos, lt-of-not-le, le-of-mul-le-mul-right}
 use lib.Dec.{T, lit<, lit≤, le→leb, ltb, eqb, ltb→lt, eqb→eq}
 use lib.Ieee.{Float, nan, inf, fin, up, down, binary64, mul, le}
 use lib.Ieee.Fits.{down-pos, and-l}
 use lib.Ieee.Order.{le-of-values, transfer}
 use Rattle.algebra.specs.Polynomial.{two-sq, le-or-le}
-use Rattle.algebra.specs.Reading.{poly, from, from-over, read, _⊹_, _⋆_}
-use Rattle.enclosure.specs.Close.{Close, Within, norm, size-low, size-high}
+use Rattle.algebra.specs.Reading.{from, from-over, read, _⊹_, _⋆_}
+use Rattle.enclosure.specs.Close.{Within, norm, size-low, size-high}
 use Rattle.enclosure.specs.Root.{below-of-squares}
 use Rattle.enclosure.specs.Point.{Point}
 use Rattle.enclosure.specs.Near.{Near, near-nothing}
 use Rattle.enclosure.specs.declared.Complex.{Complex}
 use Rattle.enclosure.specs.Rounding.{Rounds}
-use Rattle.enclosure.specs.Units.{unit, unit-pos, most, span, extent, extent-span, extent-unit, extent-most, extent-pos, Is, unitsOf, Rounded, mul-rounds, ratio-rounds, square-rounds, ofNat}
+use Rattle.enclosure.specs.Units.{unit, unit-pos, most, span, extent, extent-span, extent-unit, extent-most, extent-pos, Is, unitsOf, Rounded, mul-rounds, ratio-rounds, square-rounds}
 use Rattle.enclosure.specs.Steps.{parts}
 use Rattle.enclosure.specs.Doubles.{square, squared, ratio, empty, rootBelow, sizeBelow, lowerOf, upperOf}
 use Rattle.enclosure.specs.Climb.{Top, climb-top}
@@ -51,13 +50,6 @@ le-units (fin false m e) (fin false n d) w v h k t =
 
 pub nle-units : (x y : Float) (w v : ℕ) → Is x w → Is y v → le x y ≡ false → v < w
 nle-units x y w v h k e = lt-of-not-le (λ (l : w ≤ v). rw e at (le-of-values x y w unit v unit unit-pos unit-pos h k (mul-le-mul l (le-refl unit))))
-
-pub le-false : (x y : Float) (w v : ℕ) → Is x w → Is y v → v < w → le x y ≡ false
-le-false x y w v h k l = go (le x y) refl
-  where
-    go : (b : Bool) → le x y ≡ b → b ≡ false
-    go true e = absurd (omega (arith, le-units x y w v h k e))
-    go false e = refl
 
 -- ---- one test of a root, over plain numbers: L smallest make 1; N is |z|², n its f64, T that of p/q, m that of p/q·|z|², g that of r²
 module _ (r L g m n T N p q : ℕ) (hg : Rounds g (r * r * L) 1) (hm : Rounds m (n * T) L) (ht : Rounds T (p * L) q) (hn : Within parts 3 0 N (n * L))
@@ -159,6 +151,13 @@ pub record Enclosed (p q : ℕ) (P : Point) (lower upper : ℕ) : Type 0 where
   -- 2 apart and one part in 2 ^ 29
   pub narrow : 536870912 * upper ≤ 536870912 * (lower + 2) + (lower + 1)
   pub small : upper < 2 ^ 53
+
+-- that is narrower than 2 A and a w-th of the upper bound, for every w up to 2 ^ 29: a thousand and a million are among them
+pub width : (w lower upper : ℕ) → w ≤ 536870912 → 536870912 * upper ≤ 536870912 * (lower + 2) + (lower + 1) → w * upper ≤ w * (lower + 2) + upper
+width w lower upper l h = ⊎-elim (λ (k : upper ≤ lower + 2). le-trans (mul-le-mul (le-refl w) k) (omega arith)) (λ (k : lower + 2 ≤ upper). go (le-dest k .0) (le-dest k .1)) (le-or-le upper (lower + 2))
+  where
+    go : (d : ℕ) → lower + 2 + d ≡ upper → w * upper ≤ w * (lower + 2) + upper
+    go d e = let m : w * d ≤ 536870912 * d = mul-le-mul l (le-refl d) in rw (← e) (omega (arith, rw (← e) at h, mul-add w (lower + 2) d))
 
 -- nothing, or a size that has whole bounds
 abbrev pub Extent : ℕ → Type 0
@@ -293,7 +292,7 @@ encloses-none p q z P t e = rw t (record {
     im : P .im ≡ 0
     im = omega arith
 
--- THE ENCLOSURE: whole bounds of √(p/q)·|P| from an f64 point within a millionth of a millionth, for every size in range
+-- THE ENCLOSURE: whole bounds of √(p/q)·|P| from an f64 point within 10⁶ parts in 2 ^ 53, for every size in range
 pub encloses : (z : Complex) (k : ℕ) (P : Point) (p q : ℕ) → Fine z → Extent (size z) → k ≤ 1000000 → Near parts k P (value z) → 0 < p → 0 < q → p < 65536 → q < 65536
     → p * norm (P .re) (P .im) ≤ q * (2 ^ 104 * (P .den * P .den)) → Enclosed p q P (lowerOf p q z) (upperOf p q z)
 encloses z k P p q f (inl e) few h p₀ q₀ p₁ q₁ room = encloses-none p q z P (fair-empty z f (inl e) ∙ eq-eqb (size z) 0 e) (eqb-true (P .re + P .im) 0 (near-nothing parts k P (value z) (omega arith) (omega arith) h ∙ eq-eqb (size z) 0 e))

@@ -5,7 +5,7 @@ use mathlib.Core.Path.{_≡_, refl, sym, ap, _∙_}
 use mathlib.Core.Bool.{Bool, true, false}
 use mathlib.Core.Logic.{_⊎_, inl, inr}
 use native.Mathlib.Omega.{arith}
-use native.Mathlib.Nat.{pow-suc, mul-div-cancel, add-assoc, mul-comm}
+use native.Mathlib.Nat.{pow-suc, mul-div-cancel, add-assoc}
 use lib.Pow.{pow-pos}
 use Rattle.enclosure.specs.Point.{pick}
 use lib.Ieee.{Float, le}

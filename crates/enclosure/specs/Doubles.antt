@@ -1,7 +1,6 @@
 -- The calculation in f64, one definition for each function of src/. How near each is to the exact operation is proved in Fair and Amperes.
-use Prim.Native.Nat.{ℕ, zero, suc, _+_, _*_, _^_, _≤_, _<_}
-use mathlib.Core.Path.{_≡_}
-use mathlib.Core.Bool.{Bool, true, false}
+use Prim.Native.Nat.{ℕ, zero, suc, _+_, _*_, _^_}
+use mathlib.Core.Bool.{Bool}
 use lib.Ieee.{Float, binary64, ofBits, add, mul, div, eq, le}
 use Rattle.enclosure.specs.declared.Complex.{Complex}
 use Rattle.enclosure.specs.declared.Bounds.{Bounds}
@@ -25,18 +24,18 @@ added x y = record { re = add binary64 (x .re) (y .re); im = add binary64 (x .im
 unfoldable pub empty : Complex → Bool
 empty z = eq (add binary64 (z .re) (z .im)) nought
 
--- the square of the size
+-- the square of the size, in f64
 abbrev pub square : Complex → Float
 square z = add binary64 (mul binary64 (z .re) (z .re)) (mul binary64 (z .im) (z .im))
 
--- one over z; nothing for nothing
+-- one over z, in f64; nothing for nothing
 unfoldable pub inverted : Complex → Complex
 inverted z = pick (eq (square z) nought) z (record { re = div binary64 (z .re) (square z); im = div binary64 (z .im) (square z) })
 
 abbrev pub ratio : ℕ → ℕ → Float
 ratio p q = div binary64 (ofNat p) (ofNat q)
 
--- p/q of z
+-- p/q of z, in f64
 unfoldable pub scaled : ℕ → ℕ → Complex → Complex
 scaled p q z = record { re = mul binary64 (z .re) (ratio p q); im = mul binary64 (z .im) (ratio p q) }
 
@@ -48,11 +47,11 @@ unfoldable pub climb : (ℕ → Bool) → ℕ → ℕ → ℕ
 climb test zero low = low
 climb test (suc k) low = climb test k (pick (test (low + 2 ^ k)) (low + 2 ^ k) low)
 
--- the square of a whole number
+-- the square of a whole number, in f64
 abbrev pub squared : ℕ → Float
 squared n = mul binary64 (ofNat n) (ofNat n)
 
--- the greatest whole number below 2 ^ 53 whose square is at most m
+-- the greatest whole number below 2 ^ 53 whose square, in f64, is at most m
 unfoldable pub rootBelow : Float → ℕ
 rootBelow m = climb (λ r. le (squared r) m) 53 0
 

@@ -1,28 +1,27 @@
 -- Each operation of f64 is near the exact one on the same numbers: within 2, 6 and 4 parts in 2 ^ 53 of the size re + im.
 -- Assumes nothing.
 use Prim.Native.Nat.{ℕ, zero, suc, _+_, _*_, _^_, _≤_, _<_}
-use mathlib.Core.Path.{_≡_, refl, sym, ap, ap₂, _∙_, subst}
+use mathlib.Core.Path.{_≡_, refl, sym, ap₂, _∙_}
 use mathlib.Core.Bool.{Bool, true, false, _&&_, true≢false}
 use mathlib.Core.List.{[], _∷_}
-use mathlib.Core.Logic.{_⊎_, inl, inr, ⊎-elim}
+use mathlib.Core.Logic.{_⊎_, inl, inr}
 use native.Mathlib.Omega.{arith}
-use native.Mathlib.Nat.{le-refl, le-trans, le-of-eq, le-of-lt, mul-le-mul, mul-le-mul-right, mul-pos, mul-one, mul-comm}
+use native.Mathlib.Nat.{le-trans, mul-le-mul, mul-pos}
 use lib.Pow.{pow-pos}
-use lib.Dec.{T, eqb, lit≤}
-use borrow.Author.Tests.{eqb-true, eqb-false, eq-eqb, ne-eqb}
+use lib.Dec.{T, eqb}
+use borrow.Author.Tests.{eq-eqb, ne-eqb}
 use lib.Ieee.{Float, nan, inf, fin, binary64, ofBits, add, mul, div, eq, up, down}
-use lib.Ieee.Exact.{HasValue}
 use lib.Ieee.Fits.{down-pos}
 use Rattle.algebra.specs.Polynomial.{two-sq}
-use Rattle.algebra.specs.Reading.{poly, from, from-over, read, _⊹_, _⋆_}
+use Rattle.algebra.specs.Reading.{from, from-over, read, _⊹_, _⋆_}
 use Rattle.enclosure.specs.Close.{Close, norm, Within, close-round}
-use Rattle.enclosure.specs.Point.{pick, Point, Ops, nothing, isNothing, sum, times, turned, inverse}
+use Rattle.enclosure.specs.Point.{Point, isNothing, sum, times, turned, inverse}
 use Rattle.enclosure.specs.Near.{Near}
 use Rattle.enclosure.specs.declared.Complex.{Complex}
 use Rattle.enclosure.specs.Rounding.{Rounds}
-use Rattle.enclosure.specs.Units.{unit, most, span, unit-pos, span-pos, span-unit, span-most, span-ratio, span-large, Is, unitsOf, units-is, Rounded, add-rounds, mul-rounds, div-rounds, ratio-rounds, ofNat}
+use Rattle.enclosure.specs.Units.{unit, most, span, unit-pos, span-pos, span-unit, span-most, span-ratio, span-large, Is, unitsOf, Rounded, add-rounds, mul-rounds, div-rounds, ratio-rounds}
 use Rattle.enclosure.specs.Steps.{parts, sum-step, square-step, inverse-step, scale-step}
-use Rattle.enclosure.specs.Doubles.{nought, none, added, empty, square, inverted, ratio, scaled}
+use Rattle.enclosure.specs.Doubles.{nought, added, empty, square, inverted, ratio, scaled}
 
 -- ---- what an f64 point stands for
 abbrev pub value : Complex → Point

@@ -1,14 +1,13 @@
 -- Nearness of a rounded point to an exact one, and rounded calculation that keeps it.
 -- Assumes nothing.
 use Prim.Native.Nat.{ℕ, zero, suc, _+_, _*_, _≤_, _<_}
-use mathlib.Core.Path.{_≡_, refl, sym, _∙_, ap, ap₂}
+use mathlib.Core.Path.{_≡_, refl, sym, _∙_, ap}
 use mathlib.Core.Bool.{Bool, true, false}
 use mathlib.Core.List.{[], _∷_}
 use native.Mathlib.Omega.{arith}
 use native.Mathlib.Nat.{le-refl, mul-le-mul, mul-pos}
-use lib.Dec.{eqb}
 use borrow.Author.Tests.{eqb-true, eqb-false, eq-eqb, ne-eqb}
-use Rattle.algebra.specs.Reading.{identity, from, from-over, read, _⊹_, _⋆_}
+use Rattle.algebra.specs.Reading.{identity, from, read, _⊹_, _⋆_}
 use Rattle.algebra.specs.Polynomial.{two-sq}
 use Rattle.enclosure.specs.Close.{Close, norm, close-scale, close-unscale, close-more, close-sum, close-invert, close-trans}
 use Rattle.enclosure.specs.Point.{pick, Point, Ops, nothing, isNothing, sum, times, turned, inverse, exact}

@@ -1,6 +1,6 @@
 -- Exact impedances and admittances. Each lies in the closed first quadrant: R + jX as it is, and G - jB as its two sizes G and B.
 -- Assumes nothing.
-use Prim.Native.Nat.{ℕ, zero, suc, _+_, _*_, _≤_, _<_}
+use Prim.Native.Nat.{ℕ, _+_, _*_}
 use mathlib.Core.Bool.{Bool, true, false}
 use lib.Dec.{eqb}
 

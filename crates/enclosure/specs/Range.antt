@@ -1,25 +1,24 @@
--- f64 is fair in the sense of the tree's `Fair`, for a limited number of steps from numbers of a known size.
+-- f64 is fair in the sense of `Fair` of Near, for a limited number of steps from numbers of a known size.
 -- Assumes nothing.
 use Prim.Native.Nat.{ℕ, zero, suc, zero-le, _+_, _-_, _*_, _^_, _≤_, _<_}
-use mathlib.Core.Path.{_≡_, refl, sym, ap, ap₂, _∙_, subst}
-use mathlib.Core.Bool.{Bool, true, false}
+use mathlib.Core.Path.{_≡_, refl, sym, ap, _∙_}
 use mathlib.Core.List.{[], _∷_}
 use mathlib.Core.Logic.{_⊎_, inl, inr, ⊎-elim}
 use native.Mathlib.Omega.{arith}
-use native.Mathlib.Nat.{le-refl, le-trans, le-of-eq, le-dest, mul-le-mul, mul-le-mul-right, mul-pos, mul-one, mul-comm, zero-mul}
-use lib.Pow.{pow-pos, pow-add, pow-mono}
+use native.Mathlib.Nat.{le-refl, le-trans, le-of-eq, le-dest, mul-le-mul, mul-pos, zero-mul}
+use lib.Pow.{pow-add, pow-mono}
 use lib.Dec.{lit≤}
 use borrow.Author.Tests.{eq-eqb, ne-eqb}
 use lib.Ieee.{ofBits}
 use Rattle.algebra.specs.Polynomial.{two-sq, le-or-le}
 use Rattle.algebra.specs.Reading.{poly, from, from-over, read, _⊹_, _⋆_}
 use Rattle.enclosure.specs.Close.{Close, norm}
-use Rattle.enclosure.specs.Point.{Point, Ops, nothing, isNothing, sum, times, turned, inverse}
+use Rattle.enclosure.specs.Point.{Point, nothing, sum, times, turned, inverse}
 use Rattle.enclosure.specs.Near.{Near, Fair}
 use Rattle.enclosure.specs.declared.Complex.{Complex}
 use Rattle.enclosure.specs.Units.{unit, span, unit-pos, Is, unitsOf, units-is}
 use Rattle.enclosure.specs.Steps.{parts}
-use Rattle.enclosure.specs.Doubles.{nought, none, added, empty, inverted, scaled, doubles}
+use Rattle.enclosure.specs.Doubles.{nought, added, inverted, scaled, doubles}
 use Rattle.enclosure.specs.Fair.{value, size, Fine, Sized, fair-add, fair-inverse, fair-scale, fair-empty}
 
 -- ---- near points have sizes within a factor of 2

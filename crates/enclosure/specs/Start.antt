@@ -1,23 +1,20 @@
 -- Where an element's calculation starts: whole numbers are f64s, and their sizes are in range.
 -- Assumes nothing.
 use Prim.Native.Nat.{ℕ, zero, suc, _+_, _*_, _^_, _≤_, _<_}
-use mathlib.Core.Path.{_≡_, refl, sym, ap, ap₂, _∙_}
-use mathlib.Core.Bool.{Bool, true, false, true≢false}
+use mathlib.Core.Path.{_≡_, refl, sym, ap, _∙_}
+use mathlib.Core.Bool.{false}
 use mathlib.Core.List.{[], _∷_}
 use mathlib.Core.Logic.{_⊎_, inl, inr}
 use native.Mathlib.Omega.{arith}
-use native.Mathlib.Nat.{le-refl, le-trans, mul-le-mul, mul-le-mul-right, mul-right-comm, mul-one, one-mul, mul-pos}
-use lib.Dec.{lit≤}
+use native.Mathlib.Nat.{le-refl, mul-right-comm, mul-one}
 use lib.Ieee.{Float, nan, inf, fin, up, down}
 use lib.Ieee.Exact.{HasValue}
 use Rattle.algebra.specs.Reading.{poly, from, read, _⊹_, _⋆_}
-use Rattle.enclosure.specs.Point.{Point}
-use Rattle.enclosure.specs.Near.{Near, NearTo}
-use Rattle.enclosure.specs.declared.Complex.{Complex}
+use Rattle.enclosure.specs.Near.{NearTo}
 use Rattle.enclosure.specs.Units.{unit, unit-pos, Is, unitsOf, units-is, ofNat, exact}
 use Rattle.enclosure.specs.Steps.{parts}
 use Rattle.enclosure.specs.Doubles.{whole}
-use Rattle.enclosure.specs.Fair.{value, size, Fine}
+use Rattle.enclosure.specs.Fair.{value}
 use Rattle.enclosure.specs.Range.{Good, reach}
 
 widened : (x : Float) (n : ℕ) → HasValue x false n 1 → Is x (n * unit)

@@ -19,8 +19,7 @@ use Rattle.enclosure.specs.Steps.{parts}
 use Rattle.enclosure.specs.Units.{unit, extent}
 use Rattle.enclosure.specs.Fair.{value, size, Fine}
 use Rattle.enclosure.specs.Range.{Good, Volts}
-use Rattle.enclosure.specs.Amperes.{Enclosed, Extent}
-use Rattle.enclosure.specs.Chain.{width}
+use Rattle.enclosure.specs.Amperes.{Enclosed, Extent, width}
 use Rattle.enclosure.specs.declared.Complex.{Complex}
 use Rattle.elements.specs.Factors.{factorC}
 use Rattle.elements.specs.Sizes.{factorC-sized}

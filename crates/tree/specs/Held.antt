@@ -5,11 +5,11 @@ use mathlib.Core.Path.{_≡_, refl}
 use mathlib.Core.List.{[], _∷_}
 use mathlib.Core.Logic.{_⊎_, inl, inr}
 use native.Mathlib.Omega.{arith}
-use native.Mathlib.Nat.{le-refl, mul-le-mul, mul-pos, sub-self}
+use native.Mathlib.Nat.{le-refl, mul-le-mul, sub-self}
 use Rattle.algebra.specs.Reading.{from-over, read, _⊹_, _⋆_}
 use Rattle.enclosure.specs.Point.{Point, exact}
 use Rattle.enclosure.specs.Near.{Near, Rules, NearTo, near-more, fair-rules}
-use Rattle.enclosure.specs.Units.{unit, unit-pos}
+use Rattle.enclosure.specs.Units.{unit}
 use Rattle.enclosure.specs.Steps.{parts}
 use Rattle.enclosure.specs.Doubles.{doubles}
 use Rattle.enclosure.specs.Fair.{value, size, Fine}
@@ -49,14 +49,6 @@ held-range k x y l h low high = go low
     go : Low (2 ^ 199) x → InRange y
     go (inl e) = inl (nil (size y) (x .den) (x .re + x .im) unit (h .0 .left) e (s .1))
     go (inr g) = inr (between (2 ^ 199) (x .re + x .im) (x .den) (size y) unit (h .0 .left) g high (s .0) (s .1))
-
--- an f64 near what is not nothing is not 0
-pub held-some : (k : ℕ) (x : Point) (y : Complex) → 4 * k ≤ parts → Held k x y → 0 < x .re + x .im → InRange y → Between (2 ^ 200) (size y)
-held-some k x y l h z (inr g) = g
-held-some k x y l h z (inl e) = absurd (go (x .re + x .im) unit (size y) (x .den) z unit-pos e (near-size parts k x (value y) (omega arith) l (h .0) .0))
-  where
-    go : (t u s d : ℕ) → 0 < t → 0 < u → s ≡ 0 → t * u ≤ 2 * (s * d) → ⊥
-    go t u s d p q e h = let m = mul-pos p q in omega (arith, rw e at h)
 
 -- ---- a step of a calculation: the exact value in range makes the f64 good for a further cost of 46, the cost of a branch
 pub held-good : (k : ℕ) (x : Point) (y : Complex) → 4 * k ≤ parts → Held k x y → Low (2 ^ 199) x → x .re + x .im ≤ 2 ^ 199 * x .den → NearTo value (Good 200 k) parts k x y

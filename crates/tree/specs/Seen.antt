@@ -13,17 +13,17 @@ use Rattle.enclosure.specs.Point.{pick, Point, sum, inverse, exact}
 use Rattle.enclosure.specs.Near.{Near, NearTo}
 use Rattle.enclosure.specs.Steps.{parts}
 use Rattle.enclosure.specs.Doubles.{doubles}
-use Rattle.enclosure.specs.Fair.{value, size, Fine}
-use Rattle.enclosure.specs.Range.{Between, Good, Volts}
+use Rattle.enclosure.specs.Fair.{value, Fine}
+use Rattle.enclosure.specs.Range.{Good, Volts}
 use Rattle.enclosure.specs.declared.Complex.{Complex}
 use Rattle.tree.specs.Walk.{joined, to-parent, to-child}
 use Rattle.tree.specs.Grid.{Grid, parentOf, square, through, through-cases, admittances, seenBy, seen, seen-37}
 use Rattle.tree.specs.Bound.{AtMost, AtLeast, Low, most-more, most-sum, low-more, low-sum, low-inverse, inverse-low, referred, through-most}
-use Rattle.tree.specs.Fed.{through-proper, seen-some}
+use Rattle.tree.specs.Fed.{through-proper}
 use Rattle.tree.specs.Inside.{walk-inside}
 use Rattle.tree.specs.Through.{through-near}
-use Rattle.tree.specs.Held.{Held, held-more, InRange, held-range, held-some, held-good, f64-rules}
-use Rattle.tree.specs.Sound.{Sound, Levels, Plain, sound-proper}
+use Rattle.tree.specs.Held.{Held, held-more, held-good, f64-rules}
+use Rattle.tree.specs.Sound.{Sound, Levels, Plain}
 
 -- ---- what the proof needs of the elements: every impedance is at least 2/P, referred or not, and at most ζ·Un²; what a bus has itself
 -- is at most S, and nothing or at least 1/(ζ·Un²)
@@ -240,15 +240,3 @@ module _ (G : Grid) (U : ℕ → ℕ) (sound : Sound G) (levels : Levels G U) (p
         → Near parts (kₑ + (46 + 4 * G .count) * 37) (seen G b w) (value (seenBy doubles z′ own′ G 37 b w)) × Fine (seenBy doubles z′ own′ G 37 b w)
     seen-near b w lb =
         seen-held G U levels (2 ^ 180) (2 ^ 108) (2 ^ 60) ranged wide (tall-128 (G .count) few) sound z′ own′ kₑ near-z near-own b w lb (room kₑ (G .count) l few)
-
-    -- and of a size that can be calculated with
-    pub seen-range : (b w : ℕ) → b < G .count → InRange (seenBy doubles z′ own′ G 37 b w)
-    seen-range b w lb =
-        let m = room kₑ (G .count) l few in
-        held-range (kₑ + (46 + 4 * G .count) * 37) (seen G b w) _ (omega arith) (seen-near b w lb) (seen-low b w lb) (seen-high b w lb)
-
-    -- and not 0, where a feeder stands at bus 0
-    pub seen-fed : 0 < G .own 0 .re + G .own 0 .im → (b : ℕ) → b < G .count → Between (2 ^ 200) (size (seenBy doubles z′ own′ G 37 b b))
-    seen-fed h b lb =
-        let m = room kₑ (G .count) l few in
-        held-some (kₑ + (46 + 4 * G .count) * 37) (seen G b b) _ (omega arith) (seen-near b b lb) (seen-some G (sound .tree) (sound-proper G sound plain) h b lb) (seen-range b b lb)
