@@ -7,13 +7,13 @@ use native.Mathlib.Omega.{arith}
 use native.Mathlib.Nat.{mul-le-mul, mul-pos}
 use borrow.Author.Tests.{le-leb}
 use Rattle.algebra.specs.Reading.{identity, read}
-use Rattle.enclosure.specs.Point.{Point, times, inverse, exact}
-use Rattle.enclosure.specs.Near.{NearTo, Same, near-same, Rules, fair-rules}
+use Rattle.enclosure.specs.Point.{Point, times, inverse}
+use Rattle.enclosure.specs.Near.{NearTo, Same, near-same}
 use Rattle.enclosure.specs.declared.Complex.{Complex}
 use Rattle.enclosure.specs.Steps.{parts}
-use Rattle.enclosure.specs.Doubles.{whole, scaled, inverted, doubles}
+use Rattle.enclosure.specs.Doubles.{whole, scaled, inverted}
 use Rattle.enclosure.specs.Fair.{value}
-use Rattle.enclosure.specs.Range.{Good, Volts, doubles-fair}
+use Rattle.enclosure.specs.Range.{Good, Volts, f64-rules}
 use Rattle.enclosure.specs.Start.{whole-near}
 use Rattle.elements.specs.Factors.{factorC, sineOf, uxOf, ux-most, splitOf}
 use Rattle.elements.specs.Sizes.{split-re-most, split-im-most, factorC-sized, saturation-most}
@@ -24,15 +24,12 @@ use Rattle.elements.specs.Rounded.{lineBy, transformerBy, splitBy, feede
 abbrev pub Calculated : ℕ → Point → Complex → Type 0
 Calculated = NearTo value (Good 200 0) parts
 
-rules : Rules exact doubles Calculated Volts 50 4 13 8
-rules = fair-rules doubles value (Good 200 0) Volts parts 50 2 6 4 1 (omega arith) (omega arith) (omega arith) (omega arith) (doubles-fair 200 0 50 (omega arith))
-
 -- a pair of whole numbers, and ratios one after the other
 start : (a b : ℕ) → a < 2 ^ 32 → b < 2 ^ 32 → Calculated 0 (record { re = a; im = b; den = 1 }) (whole a b)
 start = whole-near
 
 by : (k p q : ℕ) (x : Point) (z : Complex) → k ≤ 50 → Volts p → Volts q → Calculated k x z → Calculated (k + 8) (times p q x) (scaled p q z)
-by k p q x z l hp hq h = rules .near-scale k p q x z hp hq l h
+by k p q x z l hp hq h = f64-rules 0 (omega arith) .near-scale k p q x z hp hq l h
 
 -- the same point in another form
 equal : (k : ℕ) (x y : Point) (z : Complex) → 0 < y .den → Same x y → Calculated k x z → Calculated k y z
@@ -40,7 +37,7 @@ equal k x y z d s h = (near-same parts k x y (value z) d s (h .0), h .1)
 
 -- THE ADMITTANCE of a machine, from its impedance
 pub admittance-near : (k : ℕ) (x : Point) (z : Complex) → k ≤ 50 → Calculated k x z → Calculated (k + 13) (inverse x) (inverted z)
-admittance-near k x z l h = rules .near-inverse k x z l h
+admittance-near k x z l h = f64-rules 0 (omega arith) .near-inverse k x z l h
 
 pub line-near : (r x metres circuits : ℕ) → r < 2 ^ 32 → x < 2 ^ 32 → Volts metres → Volts circuits → Calculated 16 (line r x metres circuits) (lineBy r x metres circuits)
 unfolding line lineBy

@@ -97,7 +97,7 @@ zero-left M k A B a b z l e h =
     sq-zero (2 * (M * M)) A B (mul-pos (omega arith) (mul-pos z z))
     (from (M ∷ k ∷ A ∷ B ∷ []) (4 ⋆ (rw (p, q) at h) ⊹ (A + B) * (A + B) ⋆ mul-le-mul l l ⊹ M * M ⋆ two-sq A B) (search read depth 40 fits 20000) refl)
 
-spread : (c r i : ℕ) → r + i ≡ 0 → r * c + i * c ≡ 0
+pub spread : (c r i : ℕ) → r + i ≡ 0 → r * c + i * c ≡ 0
 spread c r i h = let p : r ≡ 0 = omega arith in let q : i ≡ 0 = omega arith in rw (p, q) (omega arith)
 
 gathered : (c r i : ℕ) → 0 < c → r * c + i * c ≡ 0 → r + i ≡ 0
@@ -114,7 +114,7 @@ near-nothing M k x y z l h = go (isNothing x) refl
         (ne-eqb (y .re + y .im) 0
         (λ q. eqb-false (x .re + x .im) 0 e (gathered (y .den) _ _ (h .right) (zero-left M k _ _ _ _ z l (spread (x .den) _ _ q) (h .close)))))
 
-norm-pos : (a b : ℕ) → (a + b ≡ 0 → ⊥) → 0 < norm a b
+pub norm-pos : (a b : ℕ) → (a + b ≡ 0 → ⊥) → 0 < norm a b
 norm-pos zero zero h = absurd (h refl)
 norm-pos zero (suc b) h = omega arith
 norm-pos (suc a) b h = omega arith
@@ -157,9 +157,6 @@ pub record Same (x y : Point) : Type 0 where
 crossed : (r d s e f : ℕ) → r * e ≡ s * d → e * (r * f) ≡ d * (s * f)
 crossed r d s e f h = identity (r ∷ e ∷ f ∷ []) (search read depth 40 fits 20000) refl ∙ ap (λ (n : ℕ). n * f) h ∙ identity (s ∷ d ∷ f ∷ []) (search read depth 40 fits 20000) refl
 
-turned-round : (r d e : ℕ) → e * (r * d) ≡ d * (r * e)
-turned-round r d e = identity (r ∷ d ∷ e ∷ []) (search read depth 40 fits 20000) refl
-
 -- what is near a point is near its equals
 pub near-same : (M k : ℕ) (x y z : Point) → 0 < y .den → Same x y → Near M k x z → Near M k y z
 near-same M k x y z p s h = record {
@@ -169,7 +166,7 @@ near-same M k x y z p s h = record {
       close-unscale M k (x .den) _ _ _ _ (h .left)
       (close-eq M k
       (crossed (x .re) (x .den) (y .re) (y .den) (z .den) (s .re)) (crossed (x .im) (x .den) (y .im) (y .den) (z .den) (s .im))
-      (turned-round (z .re) (x .den) (y .den)) (turned-round (z .im) (x .den) (y .den))
+      (third (z .re) (x .den) (y .den)) (third (z .im) (x .den) (y .den))
       (close-scale M k (y .den) _ _ _ _ (h .close)));
 }
 

@@ -31,6 +31,9 @@ Low K x = (x .re + x .im ≡ 0) ⊎ (x .den ≤ K * (x .re + x .im))
 pub most-more : (Q j k : ℕ) (x : Point) → j ≤ k → AtMost Q j x → AtMost Q k x
 most-more Q j k x l h = from (Q ∷ j ∷ k ∷ x .re ∷ x .im ∷ x .den ∷ []) (h ⊹ x .den ⋆ l) (search read depth 40 fits 20000) refl
 
+pub most-under : (Q j E : ℕ) (x : Point) → 0 < Q → j ≤ E → AtMost Q j x → x .re + x .im ≤ E * x .den
+most-under Q j E x z l h = from (Q ∷ j ∷ E ∷ x .re ∷ x .im ∷ x .den ∷ []) ((x .re + x .im) ⋆ z ⊹ h ⊹ x .den ⋆ l) (search read depth 40 fits 20000) refl
+
 pub most-sum : (Q j k : ℕ) (x y : Point) → AtMost Q j x → AtMost Q k y → AtMost Q (j + k) (sum x y)
 most-sum Q j k x y h g = from (Q ∷ j ∷ k ∷ x .re ∷ x .im ∷ x .den ∷ y .re ∷ y .im ∷ y .den ∷ []) (y .den ⋆ h ⊹ x .den ⋆ g) (search read depth 40 fits 20000) refl
 

@@ -9,7 +9,7 @@ use native.Mathlib.Nat.{mul-pos}
 use lib.Dec.{eqb}
 use borrow.Author.Tests.{eqb-true, eqb-false}
 use Rattle.algebra.specs.Reading.{from, read}
-use Rattle.enclosure.specs.Near.{inverse-proper}
+use Rattle.enclosure.specs.Near.{norm-pos, inverse-proper}
 use Rattle.enclosure.specs.Point.{pick, Point, nothing, isNothing, sum, times, turned, inverse, exact}
 use Rattle.tree.specs.Walk.{joined, near, near-joined, near-parent, to-parent, to-child, over}
 use Rattle.tree.specs.Grid.{Grid, parentOf, Treelike, through, through-cases, seenBy, seen}
@@ -21,11 +21,6 @@ pub record Proper (G : Grid) : Type 0 where
   pub volts : (i : ℕ) → 0 < i → i < G .count → (0 < G .branch i .above) × (0 < G .branch i .below)
 
 -- ---- denominators
-norm-pos : (a b : ℕ) → (a + b ≡ 0 → ⊥) → 0 < a * a + b * b
-norm-pos zero zero h = absurd (h refl)
-norm-pos zero (suc b) h = omega arith
-norm-pos (suc a) b h = omega arith
-
 pub through-proper : (G : Grid) (b i : ℕ) (y : Point) → 0 < through exact (λ j. G .branch j .z) G b i y .den
 through-proper G b i y = through-cases exact (λ j. G .branch j .z) G b i y (λ t. 0 < t .den) (λ e. omega arith) (λ e d. inverse-proper _) (λ e d. inverse-proper _)
 

@@ -10,6 +10,7 @@ use lib.Dec.{ltb, eqb}
 use borrow.Author.Tests.{ltb-true, eqb-true, eqb-false}
 use Rattle.algebra.specs.Reading.{identity, read}
 use Rattle.enclosure.specs.Point.{pick, Point, exact, sum, times}
+use Rattle.enclosure.specs.Near.{Same}
 use Rattle.tree.specs.Equal.{equal, equal-over, _⊕_, _⊛_}
 use Rattle.tree.specs.Walk.{joined, to-parent, to-child, walk-related}
 use Rattle.tree.specs.Toward.{toward, toward-more, depth}
@@ -185,10 +186,6 @@ module _ (G : Grid) (tree : Treelike G) (volts : (i : ℕ) → 0 < i → i < G .
       at-same c e Q (belows b) (aboves b) (carried G b) (carriedBy exact (G .current) G b) (sums share (G .count))
       (mul-pos (belows-pos b l) (product-pos under (G .count) (λ i m. mul-pos (proper i m) (aboves-pos i m)))) (at-carried b l) (at-rooted b l)
 
--- the same as a fraction
-abbrev pub Same : Point → Point → Type 0
-Same x y = (x .re * y .den ≡ y .re * x .den) × (x .im * y .den ≡ y .im * x .den)
-
 module _ (G : Grid) (tree : Treelike G) (volts : (i : ℕ) → 0 < i → i < G .count → (0 < G .branch i .above) × (0 < G .branch i .below))
     (proper : (i : ℕ) → i < G .count → 0 < G .current i .den) where
   pub carried-proper : (b : ℕ) → b < G .count → 0 < carried G b .den
@@ -197,10 +194,10 @@ module _ (G : Grid) (tree : Treelike G) (volts : (i : ℕ) → 0 < i → i < G .
 
   -- ONE PASS SERVES: the walk's sum is that of the currents carried to bus 0, carried on to b
   pub carried-root : (b : ℕ) → b < G .count → Same (carried G b) (carriedBy exact (G .current) G b)
-  carried-root b l = (
-    real (carried G b) (carriedBy exact (G .current) G b) (same-part G tree volts proper 1 0 b l),
-    imaginary (carried G b) (carriedBy exact (G .current) G b) (same-part G tree volts proper 0 1 b l),
-  )
+  carried-root b l = record {
+    re = real (carried G b) (carriedBy exact (G .current) G b) (same-part G tree volts proper 1 0 b l);
+    im = imaginary (carried G b) (carriedBy exact (G .current) G b) (same-part G tree volts proper 0 1 b l);
+  }
     where
       real : (x y : Point) → (1 * x .re + 0 * x .im) * y .den ≡ (1 * y .re + 0 * y .im) * x .den → x .re * y .den ≡ y .re * x .den
       real x y h = equal (x .re ∷ x .im ∷ x .den ∷ y .re ∷ y .im ∷ y .den ∷ []) h (search read depth 40 fits 20000) refl
