@@ -20,7 +20,7 @@ use Rattle.enclosure.specs.Steps.{parts}
 use Rattle.enclosure.specs.Units.{extent, Between, Sized}
 use Rattle.enclosure.specs.Doubles.{scaled, lowerOf, upperOf}
 use Rattle.enclosure.specs.Fair.{value, size, Fine}
-use Rattle.enclosure.specs.Range.{reach, Good, good-sized, Volts, f64-rules}
+use Rattle.enclosure.specs.Range.{reach, Good, good-sized, Factor, f64-rules}
 use Rattle.enclosure.specs.Amperes.{Enclosed, encloses}
 use Rattle.elements.specs.Exponential.{tOver, tUnder, t-least, tOver-pos}
 use Rattle.elements.specs.PeakTable.{peakFactor, ceiling, ceiling-least}
@@ -87,7 +87,7 @@ pub record MachineFigures (c Un : ℕ) (P : Point) (y : Complex) : Type 0 where
   pub upper-few : upperOf 1 3 (currentBy c Un y) ≤ 2 ^ 51
   pub peak-few : machinePeakBy c Un y ≤ 2 ^ 51
 
-module _ (c Un k : ℕ) (P : Point) (y : Complex) (c₀ : 0 < c) (c₁ : c ≤ 110) (u : Volts Un) (few : k ≤ 900000) (h : NearTo value (Good 200 k) parts k P y) (B₀ : 0 < P .im)
+module _ (c Un k : ℕ) (P : Point) (y : Complex) (c₀ : 0 < c) (c₁ : c ≤ 110) (u : Factor Un) (few : k ≤ 900000) (h : NearTo value (Good 200 k) parts k P y) (B₀ : 0 < P .im)
     (room : c * Un * (c * Un) * norm (P .re) (P .im) ≤ 2 ^ 100 * (10000 * (P .den * P .den))) where
   current-near : NearTo value (Good 200 k) parts (k + 8 + 8) (driven c Un P) (currentBy c Un y)
   unfolding currentBy

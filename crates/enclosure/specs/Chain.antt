@@ -14,9 +14,9 @@ abbrev pub chain : {A : Type 0} → Ops A → (s z : ℕ → A) → (p q : ℕ �
 chain o s z p q zero = s 0
 chain o s z p q (suc n) = level o (s (suc n)) (z n) (p n) (q n) (chain o s z p q n)
 
-module _ {A B : Type 0} (o : Ops A) (o′ : Ops B) (R : ℕ → A → B → Type 0) (Volts : ℕ → Type 0) (limit a v c : ℕ) (rules : Rules o o′ R Volts limit a v c)
+module _ {A B : Type 0} (o : Ops A) (o′ : Ops B) (R : ℕ → A → B → Type 0) (Factor : ℕ → Type 0) (limit a v c : ℕ) (rules : Rules o o′ R Factor limit a v c)
     (s z : ℕ → A) (s′ z′ : ℕ → B) (p q : ℕ → ℕ) (k : ℕ)
-    (near-s : (i : ℕ) → R k (s i) (s′ i)) (near-z : (i : ℕ) → R k (z i) (z′ i)) (volts : (i : ℕ) → Volts (p i) × Volts (q i)) where
+    (near-s : (i : ℕ) → R k (s i) (s′ i)) (near-z : (i : ℕ) → R k (z i) (z′ i)) (volts : (i : ℕ) → Factor (p i) × Factor (q i)) where
   -- A LEVEL COSTS two sums, two inversions and two scalings, however many lie before it
   pub chain-near : (n : ℕ) → k + (a + v + a + c + c + v) * n ≤ limit → R (k + (a + v + a + c + c + v) * n) (chain o s z p q n) (chain o′ s′ z′ p q n)
   chain-near zero l = rules .more k _ _ _ (omega arith) (near-s 0)

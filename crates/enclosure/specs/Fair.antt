@@ -8,7 +8,7 @@ use mathlib.Core.Logic.{_⊎_, inl, inr}
 use native.Mathlib.Omega.{arith}
 use native.Mathlib.Nat.{le-trans, mul-le-mul, mul-pos}
 use lib.Pow.{pow-pos}
-use lib.Dec.{T, eqb, lit≤}
+use lib.Dec.{eqb, lit≤}
 use borrow.Author.Tests.{eq-eqb, ne-eqb}
 use lib.Ieee.{Float, nan, inf, fin, binary64, ofBits, add, mul, div, eq, up, down}
 use lib.Ieee.Fits.{down-pos}
@@ -141,20 +141,21 @@ zero-eq (fin false m e) w h = and-true _ ∙ zero-is (m * up e) unit w (down e) 
 
 -- ---- THE INVERSE
 module _ (z : Complex) (f : Fine z) (lo : unit ≤ size z * span) (hi : size z ≤ unit * span) where
-  sqr : Rounded (mul binary64 (z .re) (z .re)) (unitsOf (z .re) * unitsOf (z .re)) unit
-  sqr = mul-rounds (z .re) (z .re) _ _ (f .re) (f .re) (fits-square unit span most unit-pos span-pos span-unit span-most (unitsOf (z .re)) (unitsOf (z .im)) lo hi (unitsOf (z .re)) (omega arith))
-
-  sqi : Rounded (mul binary64 (z .im) (z .im)) (unitsOf (z .im) * unitsOf (z .im)) unit
-  sqi = mul-rounds (z .im) (z .im) _ _ (f .im) (f .im) (fits-square unit span most unit-pos span-pos span-unit span-most (unitsOf (z .re)) (unitsOf (z .im)) lo hi (unitsOf (z .im)) (omega arith))
+  -- x is the real part or the imaginary one
+  part-squared : (x : Float) → Is x (unitsOf x) → unitsOf x ≤ size z → Rounded (mul binary64 x x) (unitsOf x * unitsOf x) unit
+  part-squared x i l = mul-rounds x x _ _ i i (fits-square unit span most unit-pos span-pos span-unit span-most (unitsOf (z .re)) (unitsOf (z .im)) lo hi (unitsOf x) l)
 
   pub sq : Rounded (square z) (unitsOf (mul binary64 (z .re) (z .re)) + unitsOf (mul binary64 (z .im) (z .im))) 1
-  sq = add-rounds _ _ _ _ (sqr .is) (sqi .is) (fits-squares unit span most unit-pos span-pos span-unit span-most (unitsOf (z .re)) (unitsOf (z .im)) lo hi _ _ (sqr .law) (sqi .law))
+  sq =
+      let r = part-squared (z .re) (f .re) (omega arith) in
+      let i = part-squared (z .im) (f .im) (omega arith) in
+      add-rounds _ _ _ _ (r .is) (i .is) (fits-squares unit span most unit-pos span-pos span-unit span-most (unitsOf (z .re)) (unitsOf (z .im)) lo hi _ _ (r .law) (i .law))
 
   pub big : 2 ^ 60 * unit ≤ norm (unitsOf (z .re)) (unitsOf (z .im))
   big = norm-large (unitsOf (z .re)) (unitsOf (z .im)) unit span (2 ^ 64) (2 ^ 60) span-pos (lit≤ tt) span-unit lo
 
   pub near-square : Within parts 3 0 (norm (unitsOf (z .re)) (unitsOf (z .im))) (unitsOf (square z) * unit)
-  near-square = square-step (unitsOf (z .re)) (unitsOf (z .im)) unit _ _ (unitsOf (square z)) big (sqr .law) (sqi .law) (sq .law)
+  near-square = square-step (unitsOf (z .re)) (unitsOf (z .im)) unit _ _ (unitsOf (square z)) big (part-squared (z .re) (f .re) (omega arith) .law) (part-squared (z .im) (f .im) (omega arith) .law) (sq .law)
 
   above : 0 < unitsOf (square z)
   above = square-pos _ unit (unitsOf (square z)) unit-pos big near-square
@@ -162,11 +163,8 @@ module _ (z : Complex) (f : Fine z) (lo : unit ≤ size z * span) (hi : size z �
   most-part : size z ≤ unitsOf (square z) * most
   most-part = fits-quotient unit span most unit-pos span-pos span-unit span-most (unitsOf (z .re)) (unitsOf (z .im)) lo hi (unitsOf (square z)) near-square
 
-  qr : Rounded (div binary64 (z .re) (square z)) (unitsOf (z .re) * unit) (unitsOf (square z))
-  qr = div-rounds (z .re) (square z) _ _ (f .re) (sq .is) above (le-trans (omega arith) most-part)
-
-  qi : Rounded (div binary64 (z .im) (square z)) (unitsOf (z .im) * unit) (unitsOf (square z))
-  qi = div-rounds (z .im) (square z) _ _ (f .im) (sq .is) above (le-trans (omega arith) most-part)
+  part-inverted : (x : Float) → Is x (unitsOf x) → unitsOf x ≤ size z → Rounded (div binary64 x (square z)) (unitsOf x * unit) (unitsOf (square z))
+  part-inverted x i l = div-rounds x (square z) _ _ i (sq .is) above (le-trans l most-part)
 
   near-inverse : Near parts 6 (turned (value z)) (value (record { re = div binary64 (z .re) (square z); im = div binary64 (z .im) (square z) }))
   near-inverse = record {
@@ -175,7 +173,8 @@ module _ (z : Complex) (f : Fine z) (lo : unit ≤ size z * span) (hi : size z �
     close =
         close-round parts 5 (parts * norm (unitsOf (z .re)) (unitsOf (z .im))) _ _ _ _
         (little unit span most unit-pos span-pos span-unit span-most (unitsOf (z .re)) (unitsOf (z .im)) lo hi)
-        (inverse-step (unitsOf (z .re)) unit (unitsOf (square z)) _ _ near-square (qr .law)) (inverse-step (unitsOf (z .im)) unit (unitsOf (square z)) _ _ near-square (qi .law));
+        (inverse-step (unitsOf (z .re)) unit (unitsOf (square z)) _ _ near-square (part-inverted (z .re) (f .re) (omega arith) .law))
+        (inverse-step (unitsOf (z .im)) unit (unitsOf (square z)) _ _ near-square (part-inverted (z .im) (f .im) (omega arith) .law));
   }
 
 times-zero : (a b : ℕ) → a ≡ 0 → a * b ≡ 0
@@ -191,17 +190,14 @@ module _ (z : Complex) (f : Fine z) (e : size z ≡ 0) where
   no-im : unitsOf (z .im) ≡ 0
   no-im = omega arith
 
-  nr : Rounded (mul binary64 (z .re) (z .re)) (unitsOf (z .re) * unitsOf (z .re)) unit
-  nr = mul-rounds (z .re) (z .re) _ _ (f .re) (f .re) (zero-le-of _ _ (times-zero _ _ no-re))
-
-  ni : Rounded (mul binary64 (z .im) (z .im)) (unitsOf (z .im) * unitsOf (z .im)) unit
-  ni = mul-rounds (z .im) (z .im) _ _ (f .im) (f .im) (zero-le-of _ _ (times-zero _ _ no-im))
+  none-squared : (x : Float) → Is x (unitsOf x) → unitsOf x ≡ 0 → Is (mul binary64 x x) (unitsOf (mul binary64 x x)) × (unitsOf (mul binary64 x x) ≡ 0)
+  none-squared x i n = let r = mul-rounds x x _ _ i i (zero-le-of _ _ (times-zero _ _ n)) in (r .is, rounds-zero _ _ unit unit-pos (times-zero _ _ n) (r .law))
 
   none-sum : unitsOf (mul binary64 (z .re) (z .re)) + unitsOf (mul binary64 (z .im) (z .im)) ≡ 0
-  none-sum = ap₂ _+_ (rounds-zero _ _ unit unit-pos (times-zero _ _ no-re) (nr .law)) (rounds-zero _ _ unit unit-pos (times-zero _ _ no-im) (ni .law))
+  none-sum = ap₂ _+_ (none-squared (z .re) (f .re) no-re .1) (none-squared (z .im) (f .im) no-im .1)
 
   ns : Rounded (square z) (unitsOf (mul binary64 (z .re) (z .re)) + unitsOf (mul binary64 (z .im) (z .im))) 1
-  ns = add-rounds _ _ _ _ (nr .is) (ni .is) (zero-le-of _ _ none-sum)
+  ns = add-rounds _ _ _ _ (none-squared (z .re) (f .re) no-re .0) (none-squared (z .im) (f .im) no-im .0) (zero-le-of _ _ none-sum)
 
   no-square : eq (square z) nought ≡ true
   no-square = zero-eq (square z) _ (ns .is) ∙ eq-eqb _ 0 (rounds-zero _ _ 1 (pow-pos 0) none-sum (ns .law))
@@ -217,7 +213,7 @@ fair-inverse z f (inl e) =
     (record { left = omega arith; right = unit-pos; close = rw (no-re z f e, no-im z f e) (omega arith) }, f)
 fair-inverse z f (inr h) =
     rw (ne-eqb (size z) 0 (λ q. omega (arith, some-size (size z) unit span unit-pos (h .0))), zero-eq (square z) _ (sq z f (h .0) (h .1) .is) ∙ ne-eqb (unitsOf (square z)) 0 (λ q. omega (arith, above z f (h .0) (h .1))))
-    (near-inverse z f (h .0) (h .1), record { re = qr z f (h .0) (h .1) .is; im = qi z f (h .0) (h .1) .is })
+    (near-inverse z f (h .0) (h .1), record { re = part-inverted z f (h .0) (h .1) (z .re) (f .re) (omega arith) .is; im = part-inverted z f (h .0) (h .1) (z .im) (f .im) (omega arith) .is })
 
 pub fair-empty : (z : Complex) → Fine z → Sized span (size z) → empty z ≡ isNothing (value z)
 unfolding empty
@@ -256,26 +252,23 @@ module _ (z : Complex) (f : Fine z) (p q : ℕ) (p₀ : 0 < p) (q₀ : 0 < q) (p
   top A l (inl e) = zero-le-of _ _ (times-zero A _ (omega arith))
   top A l (inr h) = fits-product A (unitsOf (ratio p q)) (size z) unit span most l (h .1) (ratio-most (2 ^ 32) p q unit _ q₀ unit-pos (omega arith) (omega arith) (by .law)) span-ratio
 
-  mr : Sized span (size z) → Rounded (mul binary64 (z .re) (ratio p q)) (unitsOf (z .re) * unitsOf (ratio p q)) unit
-  mr s = mul-rounds (z .re) (ratio p q) _ _ (f .re) (by .is) (top (unitsOf (z .re)) (omega arith) s)
-
-  mi : Sized span (size z) → Rounded (mul binary64 (z .im) (ratio p q)) (unitsOf (z .im) * unitsOf (ratio p q)) unit
-  mi s = mul-rounds (z .im) (ratio p q) _ _ (f .im) (by .is) (top (unitsOf (z .im)) (omega arith) s)
+  part-scaled : Sized span (size z) → (x : Float) → Is x (unitsOf x) → unitsOf x ≤ size z → Rounded (mul binary64 x (ratio p q)) (unitsOf x * unitsOf (ratio p q)) unit
+  part-scaled s x i l = mul-rounds x (ratio p q) _ _ i (by .is) (top (unitsOf x) l s)
 
   near-parts : (s : Sized span (size z)) → Close parts 4 (unitsOf (z .re) * p * unit) (unitsOf (z .im) * p * unit) (unitsOf (mul binary64 (z .re) (ratio p q)) * (unit * q)) (unitsOf (mul binary64 (z .im) (ratio p q)) * (unit * q))
   near-parts (inl e) =
       rw (
-        rounds-zero _ _ unit unit-pos (times-zero _ _ (no-re z f e)) (mr (inl e) .law),
-        rounds-zero _ _ unit unit-pos (times-zero _ _ (no-im z f e)) (mi (inl e) .law),
+        rounds-zero _ _ unit unit-pos (times-zero _ _ (no-re z f e)) (part-scaled (inl e) (z .re) (f .re) (omega arith) .law),
+        rounds-zero _ _ unit unit-pos (times-zero _ _ (no-im z f e)) (part-scaled (inl e) (z .im) (f .im) (omega arith) .law),
         no-re z f e,
         no-im z f e,
       ) (omega arith)
   near-parts (inr h) =
       close-round parts 3 (parts * (unit * q)) _ _ _ _
       (light (unitsOf (z .re)) (unitsOf (z .im)) unit p q (far (size z) unit span span-pos span-large (h .0)) p₀ q₁)
-      (scale-step (unitsOf (z .re)) unit p q (unitsOf (ratio p q)) _ (ratio-large p q p₀ (omega arith)) (by .law) (mr (inr h) .law))
-      (scale-step (unitsOf (z .im)) unit p q (unitsOf (ratio p q)) _ (ratio-large p q p₀ (omega arith)) (by .law) (mi (inr h) .law))
+      (scale-step (unitsOf (z .re)) unit p q (unitsOf (ratio p q)) _ (ratio-large p q p₀ (omega arith)) (by .law) (part-scaled (inr h) (z .re) (f .re) (omega arith) .law))
+      (scale-step (unitsOf (z .im)) unit p q (unitsOf (ratio p q)) _ (ratio-large p q p₀ (omega arith)) (by .law) (part-scaled (inr h) (z .im) (f .im) (omega arith) .law))
 
   pub fair-scale : Sized span (size z) → Near parts 4 (times p q (value z)) (value (scaled p q z)) × Fine (scaled p q z)
   unfolding scaled
-  fair-scale s = (record { left = mul-pos unit-pos q₀; right = unit-pos; close = near-parts s }, record { re = mr s .is; im = mi s .is })
+  fair-scale s = (record { left = mul-pos unit-pos q₀; right = unit-pos; close = near-parts s }, record { re = part-scaled s (z .re) (f .re) (omega arith) .is; im = part-scaled s (z .im) (f .im) (omega arith) .is })

@@ -171,31 +171,31 @@ near-same M k x y z p s h = record {
 }
 
 -- ---- what rounded numbers promise: R k x y says that y is within k of x; a, v and s are what a sum, an inverse and a scaling cost
-pub record Rules {A B : Type 0} (o : Ops A) (o′ : Ops B) (R : ℕ → A → B → Type 0) (Volts : ℕ → Type 0) (limit a v s : ℕ) : Type 0 where
+pub record Rules {A B : Type 0} (o : Ops A) (o′ : Ops B) (R : ℕ → A → B → Type 0) (Factor : ℕ → Type 0) (limit a v s : ℕ) : Type 0 where
   pub more : (j k : ℕ) (x : A) (y : B) → j ≤ k → R j x y → R k x y
   pub near-none : R 0 (o .none) (o′ .none)
   pub near-empty : (k : ℕ) (x : A) (y : B) → k ≤ limit → R k x y → o .empty x ≡ o′ .empty y
   pub near-add : (k : ℕ) (x x′ : A) (y y′ : B) → k ≤ limit → R k x y → R k x′ y′ → R (k + a) (o .add x x′) (o′ .add y y′)
   pub near-inverse : (k : ℕ) (x : A) (y : B) → k ≤ limit → R k x y → R (k + v) (o .inverse x) (o′ .inverse y)
-  pub near-scale : (k p q : ℕ) (x : A) (y : B) → Volts p → Volts q → k ≤ limit → R k x y → R (k + s) (o .scale p q x) (o′ .scale p q y)
+  pub near-scale : (k p q : ℕ) (x : A) (y : B) → Factor p → Factor q → k ≤ limit → R k x y → R (k + s) (o .scale p q x) (o′ .scale p q y)
 
 -- ---- rounded calculation: each step is within a, v or s of the exact step on the same numbers, and c is what an exact inverse costs.
 -- Good k y is what the numbers need besides, as an exponent in its range, after a cost of k
-pub record Fair {B : Type 0} (o : Ops B) (value : B → Point) (Good : ℕ → B → Type 0) (Volts : ℕ → Type 0) (M limit a v s c : ℕ) : Type 0 where
-  pub positive : (p : ℕ) → Volts p → 0 < p
+pub record Fair {B : Type 0} (o : Ops B) (value : B → Point) (Good : ℕ → B → Type 0) (Factor : ℕ → Type 0) (M limit a v s c : ℕ) : Type 0 where
+  pub positive : (p : ℕ) → Factor p → 0 < p
   pub good-more : (j k : ℕ) (x : B) → j ≤ k → Good j x → Good k x
   pub fair-none : Near M 0 nothing (value (o .none)) × Good 0 (o .none)
   pub fair-empty : (k : ℕ) (x : B) → k ≤ limit → Good k x → o .empty x ≡ isNothing (value x)
   pub fair-add : (k : ℕ) (x y : B) → k ≤ limit → Good k x → Good k y → Near M a (sum (value x) (value y)) (value (o .add x y)) × Good (k + 2 * a) (o .add x y)
   pub fair-inverse : (k : ℕ) (x : B) → k ≤ limit → Good k x → Near M v (inverse (value x)) (value (o .inverse x)) × Good (k + (c + 2 * v)) (o .inverse x)
-  pub fair-scale : (k p q : ℕ) (x : B) → Volts p → Volts q → k ≤ limit → Good k x → Near M s (times p q (value x)) (value (o .scale p q x)) × Good (k + 2 * s) (o .scale p q x)
+  pub fair-scale : (k p q : ℕ) (x : B) → Factor p → Factor q → k ≤ limit → Good k x → Near M s (times p q (value x)) (value (o .scale p q x)) × Good (k + 2 * s) (o .scale p q x)
 
 abbrev pub NearTo : {B : Type 0} → (B → Point) → (ℕ → B → Type 0) → ℕ → ℕ → Point → B → Type 0
 NearTo value Good M k x y = Near M k x (value y) × Good k y
 
-pub fair-rules : {B : Type 0} (o : Ops B) (value : B → Point) (Good : ℕ → B → Type 0) (Volts : ℕ → Type 0) (M limit a v s c : ℕ) → 0 < M → 0 < c
-    → 4 * (limit + c) ≤ M → 2 * (limit * (limit + c)) ≤ c * M → Fair o value Good Volts M limit a v s c → Rules exact o (NearTo value Good M) Volts limit (2 * a) (c + 2 * v) (2 * s)
-fair-rules o value Good Volts M limit a v s c z w l₁ l₂ f =
+pub fair-rules : {B : Type 0} (o : Ops B) (value : B → Point) (Good : ℕ → B → Type 0) (Factor : ℕ → Type 0) (M limit a v s c : ℕ) → 0 < M → 0 < c
+    → 4 * (limit + c) ≤ M → 2 * (limit * (limit + c)) ≤ c * M → Fair o value Good Factor M limit a v s c → Rules exact o (NearTo value Good M) Factor limit (2 * a) (c + 2 * v) (2 * s)
+fair-rules o value Good Factor M limit a v s c z w l₁ l₂ f =
     record {
       more = λ j k x y l h. (near-more M j k x (value y) l (h .0), f .good-more j k y l (h .1));
       near-none = f .fair-none;

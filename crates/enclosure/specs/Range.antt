@@ -57,8 +57,9 @@ no-size zero d t u z e h = refl
 no-size (suc s) (suc d) zero u z e h = absurd (omega arith)
 no-size (suc s) (suc d) (suc t) u z e h = absurd (omega arith)
 
-abbrev pub Volts : ℕ → Type 0
-Volts p = (0 < p) × (p < 2 ^ 32)
+-- what a scaling multiplies or divides by: volts, kVA, metres, ratios
+abbrev pub Factor : ℕ → Type 0
+Factor p = (0 < p) × (p < 2 ^ 32)
 
 module _ (w : ℕ) where
   -- d steps' worth of costs from a size within 2 ^ w
@@ -202,7 +203,7 @@ module _ (w : ℕ) where
             (rw (← regroup (unitsOf (x .re)) (unitsOf (x .im)) unit) (n .0)) (rw (← regroup (unitsOf (x .re)) (unitsOf (x .im)) unit) (n .1))),
       )
 
-  scaled-range : (k₀ k p q : ℕ) (x r : Complex) → Volts p → Volts q → Range k₀ k (size x) → Near parts 4 (times p q (value x)) (value r) → Range k₀ (k + 8) (size r)
+  scaled-range : (k₀ k p q : ℕ) (x r : Complex) → Factor p → Factor q → Range k₀ k (size x) → Near parts 4 (times p q (value x)) (value r) → Range k₀ (k + 8) (size r)
   scaled-range k₀ k p q x r hp hq g h = go g (cancel-scale (unitsOf (x .re)) (unitsOf (x .im)) p q (size r) unit unit-pos (near-size parts 4 (times p q (value x)) (value r) parts-pos (lit≤ tt) h))
     where
       go : Range k₀ k (size x) → (size x * p ≤ 2 * (size r * q)) × (size r * q ≤ 2 * (size x * p)) → Range k₀ (k + 8) (size r)
@@ -232,12 +233,12 @@ module _ (w : ℕ) where
     good-inverse k x l g =
         let f = fair-inverse x (g .fine) (good-sized span k₀ k x (reach-span (k - k₀) (omega arith)) g) in (f .0, record { fine = f .1; range = turned-range k₀ k x (inverted x) (g .range) (f .0) })
 
-    good-scale : (k p q : ℕ) (x : Complex) → Volts p → Volts q → k ≤ limit → Good k₀ k x → Near parts 4 (times p q (value x)) (value (scaled p q x)) × Good k₀ (k + 8) (scaled p q x)
+    good-scale : (k p q : ℕ) (x : Complex) → Factor p → Factor q → k ≤ limit → Good k₀ k x → Near parts 4 (times p q (value x)) (value (scaled p q x)) × Good k₀ (k + 8) (scaled p q x)
     good-scale k p q x hp hq l g =
         let f = fair-scale x (g .fine) p q (hp .0) (hq .0) (hp .1) (hq .1) (good-sized span k₀ k x (reach-span (k - k₀) (omega arith)) g) in
         (f .0, record { fine = f .1; range = scaled-range k₀ k p q x (scaled p q x) hp hq (g .range) (f .0) })
 
-    pub doubles-fair : Fair doubles value (Good k₀) Volts parts limit 2 6 4 1
+    pub doubles-fair : Fair doubles value (Good k₀) Factor parts limit 2 6 4 1
     doubles-fair = record {
       positive = λ p h. h .0;
       good-more = good-more k₀;
@@ -252,8 +253,8 @@ module _ (w : ℕ) where
     }
 
 -- F64 KEEPS THE RULES OF NEARNESS for a further cost of 50, from numbers that are 0 or from 2 ^ -200 to 2 ^ 200
-pub f64-rules : (k : ℕ) → k ≤ 1000000 → Rules exact doubles (NearTo value (Good 200 k) parts) Volts (k + 50) 4 13 8
-f64-rules k l = fair-rules doubles value (Good 200 k) Volts parts (k + 50) 2 6 4 1 (omega arith) (omega arith) (omega arith) products (doubles-fair 200 k (k + 50) (omega arith))
+pub f64-rules : (k : ℕ) → k ≤ 1000000 → Rules exact doubles (NearTo value (Good 200 k) parts) Factor (k + 50) 4 13 8
+f64-rules k l = fair-rules doubles value (Good 200 k) Factor parts (k + 50) 2 6 4 1 (omega arith) (omega arith) (omega arith) products (doubles-fair 200 k (k + 50) (omega arith))
   where
     products : 2 * ((k + 50) * (k + 50 + 1)) ≤ 1 * parts
     products = let p : k + 50 ≤ 1000050 = omega arith in let q : k + 50 + 1 ≤ 1000051 = omega arith in omega (arith, mul-le-mul p q)

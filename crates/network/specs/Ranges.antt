@@ -14,7 +14,7 @@ use borrow.Author.Tests.{eqb-true, eqb-false, eq-eqb, ne-eqb, leb-true, ltb-true
 use Rattle.algebra.specs.Reading.{from, read, _⊹_, _⋆_}
 use Rattle.enclosure.specs.Point.{pick, Point, nothing, exact, inverse}
 use Rattle.enclosure.specs.Near.{inverse-proper}
-use Rattle.enclosure.specs.Range.{Volts}
+use Rattle.enclosure.specs.Range.{Factor}
 use Rattle.enclosure.specs.Doubles.{inverted}
 use Rattle.enclosure.specs.declared.Complex.{Complex}
 use Rattle.elements.specs.Impedance.{converter}
@@ -66,8 +66,8 @@ turned-reactive x d h = rw (ne-eqb (x .re + x .im) 0 (λ e. omega arith)) (mul-p
 
 -- rated volts on both sides of a branch, against the nominal volts u of its bus and v of the parent
 record Sides (above below u v : ℕ) : Type 0 where
-  pub above-volts : Volts above
-  pub below-volts : Volts below
+  pub above-volts : Factor above
+  pub below-volts : Factor below
   pub above-near : 9 * (above * u) ≤ 11 * (below * v)
   pub below-near : 9 * (below * v) ≤ 11 * (above * u)
 
@@ -238,7 +238,7 @@ module _ {n : Network} (r : Rebuilt n) where
         let u = source-volts in
         let p = sourceAt (n .sources) j in
         let U = voltsOf n (p .bus) in
-        let hU : Volts U = (le-trans (lit≤ tt) (u .0), omega (arith, u .1)) in
+        let hU : Factor U = (le-trans (lit≤ tt) (u .0), omega (arith, u .1)) in
         cases (λ x y. Held 45 (inverse x) y)
         (λ k.
         let f = feeder-ranges r j l k in

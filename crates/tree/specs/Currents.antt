@@ -14,7 +14,7 @@ use Rattle.enclosure.specs.Units.{Sized}
 use Rattle.enclosure.specs.Steps.{parts}
 use Rattle.enclosure.specs.Doubles.{doubles}
 use Rattle.enclosure.specs.Fair.{value, size, Fine}
-use Rattle.enclosure.specs.Range.{Good, Volts, f64-rules}
+use Rattle.enclosure.specs.Range.{Good, Factor, f64-rules}
 use Rattle.enclosure.specs.declared.Complex.{Complex}
 use Rattle.tree.specs.Toward.{depth}
 use Rattle.tree.specs.Grid.{Grid, parentOf}
@@ -175,7 +175,7 @@ module _ (G : Grid) (U : ℕ → ℕ) (sound : Sound G) (levels : Levels G U) wh
     step-good : (k d b : ℕ) (x : Point) (y : Complex) → d ≤ 36 → k ≤ 1000000 → b < G .count → Most d b c x → Low (2 ^ 20 * power 2 d * U b) x → Held k x y → NearTo value (Good 200 k) parts k x y
     step-good k d b x y l m lb h g n = held-good k x y (omega arith) n (step-low d b x l lb g) (step-high d b x l lb h)
 
-    step-scale : (k d b p q : ℕ) (x : Point) (y : Complex) → d < 36 → k ≤ 100000 → Volts p → Volts q → Step c k d b x y → Held (k + 8 * suc d) (times p q x) (doubles .scale p q y)
+    step-scale : (k d b p q : ℕ) (x : Point) (y : Complex) → d < 36 → k ≤ 100000 → Factor p → Factor q → Step c k d b x y → Held (k + 8 * suc d) (times p q x) (doubles .scale p q y)
     step-scale k d b p q x y l m vp vq h =
         let t = f64-rules (k + 8 * d) (omega arith) .near-scale (k + 8 * d) p q x y vp vq (omega arith) (step-good (k + 8 * d) d b x y (omega arith) (omega arith) (h .placed) (h .most) (h .least) (h .held)) in
         held-more (k + 8 * d + 8) (k + 8 * suc d) _ _ (omega arith) (t .0, t .1 .fine)

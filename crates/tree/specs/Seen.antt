@@ -14,7 +14,7 @@ use Rattle.enclosure.specs.Near.{Near, NearTo}
 use Rattle.enclosure.specs.Steps.{parts}
 use Rattle.enclosure.specs.Doubles.{doubles}
 use Rattle.enclosure.specs.Fair.{value, Fine}
-use Rattle.enclosure.specs.Range.{Good, Volts, f64-rules}
+use Rattle.enclosure.specs.Range.{Good, Factor, f64-rules}
 use Rattle.enclosure.specs.declared.Complex.{Complex}
 use Rattle.tree.specs.Walk.{joined, to-parent, to-child}
 use Rattle.tree.specs.Grid.{Grid, parentOf, square, through, through-cases, admittances, seenBy, seen, seen-37}
@@ -163,7 +163,7 @@ module _ (G : Grid) (U : ℕ → ℕ) (levels : Levels G U) (P S ζ : ℕ) (r : 
           (λ f c i k x y lf lc li e m q h g. (
             in-through f c i _ x lc li e h,
             (let t =
-                through-near exact doubles (NearTo value (Good 200 k) parts) Volts (k + 50) 4 13 8 (f64-rules k (omega arith)) G (λ j. G .branch j .z) z′ k
+                through-near exact doubles (NearTo value (Good 200 k) parts) Factor (k + 50) 4 13 8 (f64-rules k (omega arith)) G (λ j. G .branch j .z) z′ k
                 (λ j p lj. good-z k j m (omega arith) p lj) (sound .volts)
                 k c i x y lc li e (le-refl k) (omega arith) (in-good f i k x y (omega arith) li (omega arith) h g) in
                 (t .0, t .1 .fine)),
