@@ -1,12 +1,11 @@
 -- How large the factors can be. Assumes nothing.
 use Prim.Native.Nat.{ℕ, _+_, _*_, _≤_, _<_}
 use mathlib.Core.Path.{refl}
-use mathlib.Core.Bool.{Bool, true, false}
+use mathlib.Core.Bool.{Bool, true, false, cond}
 use mathlib.Core.List.{[], _∷_}
 use native.Mathlib.Omega.{arith}
 use native.Mathlib.Nat.{mul-le-mul}
 use lib.Dec.{leb, eqb, lit≤}
-use Rattle.enclosure.specs.Point.{pick}
 use Rattle.algebra.specs.Reading.{from, read}
 use Rattle.enclosure.specs.Root.{root-le}
 use Rattle.elements.specs.Factors.{factorC, sineOf, sine-most, splitOf, split-fits, split-most}
@@ -25,7 +24,7 @@ pub factorC-sized : (tolerance volts : ℕ) → (100 < factorC tolerance volts) 
 unfolding factorC
 factorC-sized tolerance volts = go (leb volts 1000) (eqb tolerance 6)
   where
-    go : (s t : Bool) → (100 < pick s (pick t 105 110) 110) × (pick s (pick t 105 110) 110 ≤ 110)
+    go : (s t : Bool) → (100 < cond s (cond t 105 110) 110) × (cond s (cond t 105 110) 110 ≤ 110)
     go true true = (lit≤ tt, lit≤ tt)
     go true false = (lit≤ tt, lit≤ tt)
     go false t = (lit≤ tt, lit≤ tt)

@@ -1,11 +1,11 @@
 -- The calculation in f64, one definition for each function of src/. How near each is to the exact operation is proved in Fair and Amperes.
 use Prim.Native.Nat.{ℕ, zero, suc, _+_, _*_, _^_}
-use mathlib.Core.Bool.{Bool}
+use mathlib.Core.Bool.{Bool, cond}
 use lib.Ieee.{Float, binary64, ofBits, add, mul, div, eq, le}
 use Rattle.enclosure.specs.declared.Complex.{Complex}
 use Rattle.enclosure.specs.declared.Bounds.{Bounds}
 use Rattle.enclosure.specs.Units.{ofNat}
-use Rattle.enclosure.specs.Point.{pick, Ops}
+use Rattle.enclosure.specs.Point.{Ops}
 
 abbrev pub nought : Float
 nought = ofBits binary64 0
@@ -30,7 +30,7 @@ square z = add binary64 (mul binary64 (z .re) (z .re)) (mul binary64 (z .im) (z 
 
 -- one over z, in f64; nothing for nothing
 unfoldable pub inverted : Complex → Complex
-inverted z = pick (eq (square z) nought) z (record { re = div binary64 (z .re) (square z); im = div binary64 (z .im) (square z) })
+inverted z = cond (eq (square z) nought) z (record { re = div binary64 (z .re) (square z); im = div binary64 (z .im) (square z) })
 
 abbrev pub ratio : ℕ → ℕ → Float
 ratio p q = div binary64 (ofNat p) (ofNat q)
@@ -45,7 +45,7 @@ doubles = record { none = none; empty = empty; add = added; inverse = inverted; 
 -- ---- a whole number found bit by bit: the greatest that passes a test, where what passes stays below what does not
 unfoldable pub climb : (ℕ → Bool) → ℕ → ℕ → ℕ
 climb test zero low = low
-climb test (suc k) low = climb test k (pick (test (low + 2 ^ k)) (low + 2 ^ k) low)
+climb test (suc k) low = climb test k (cond (test (low + 2 ^ k)) (low + 2 ^ k) low)
 
 -- the square of a whole number, in f64
 abbrev pub squared : ℕ → Float
@@ -60,10 +60,10 @@ unfoldable pub sizeBelow : ℕ → ℕ → ℕ → Complex → ℕ
 sizeBelow margin p q z = rootBelow (mul binary64 (square z) (ratio (p * margin) (q * 1073741824)))
 
 unfoldable pub lowerOf : ℕ → ℕ → Complex → ℕ
-lowerOf p q z = pick (empty z) 0 (sizeBelow 1073741823 p q z)
+lowerOf p q z = cond (empty z) 0 (sizeBelow 1073741823 p q z)
 
 unfoldable pub upperOf : ℕ → ℕ → Complex → ℕ
-upperOf p q z = pick (empty z) 0 (sizeBelow 1073741825 p q z + 1)
+upperOf p q z = cond (empty z) 0 (sizeBelow 1073741825 p q z + 1)
 
 abbrev pub boundsOf : ℕ → ℕ → Complex → Bounds
 boundsOf p q z = record { lower = lowerOf p q z; upper = upperOf p q z }

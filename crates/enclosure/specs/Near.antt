@@ -2,7 +2,7 @@
 -- Assumes nothing.
 use Prim.Native.Nat.{ℕ, zero, suc, _+_, _*_, _≤_, _<_}
 use mathlib.Core.Path.{_≡_, refl, sym, _∙_, ap}
-use mathlib.Core.Bool.{Bool, true, false}
+use mathlib.Core.Bool.{Bool, true, false, cond}
 use mathlib.Core.List.{[], _∷_}
 use native.Mathlib.Omega.{arith}
 use native.Mathlib.Nat.{le-refl, mul-le-mul, mul-pos}
@@ -10,7 +10,7 @@ use borrow.Author.Tests.{eqb-true, eqb-false, eq-eqb, ne-eqb}
 use Rattle.algebra.specs.Reading.{identity, from, read, _⊹_, _⋆_}
 use Rattle.algebra.specs.Polynomial.{two-sq}
 use Rattle.enclosure.specs.Close.{Close, norm, close-scale, close-unscale, close-more, close-sum, close-invert, close-trans}
-use Rattle.enclosure.specs.Point.{pick, Point, Ops, nothing, isNothing, sum, times, turned, inverse, exact}
+use Rattle.enclosure.specs.Point.{Point, Ops, nothing, isNothing, sum, times, turned, inverse, exact}
 
 close-eq : (M k : ℕ) {A B a b A′ B′ a′ b′ : ℕ} → A ≡ A′ → B ≡ B′ → a ≡ a′ → b ≡ b′ → Close M k A B a b → Close M k A′ B′ a′ b′
 close-eq M k p q r s h = rw (← p, ← q, ← r, ← s) h
@@ -126,7 +126,7 @@ pub near-inverse : (M k c : ℕ) (x y : Point) → 0 < M → 0 < c → 2 * k ≤
 unfolding inverse
 near-inverse M k c x y z w d l h = go (isNothing x) (isNothing y) refl refl (near-nothing M k x y z d h)
   where
-    go : (s t : Bool) → isNothing x ≡ s → isNothing y ≡ t → isNothing x ≡ isNothing y → Near M (k + c) (pick s nothing (turned x)) (pick t nothing (turned y))
+    go : (s t : Bool) → isNothing x ≡ s → isNothing y ≡ t → isNothing x ≡ isNothing y → Near M (k + c) (cond s nothing (turned x)) (cond t nothing (turned y))
     go true true p q e = nothing-near M (k + c)
     go true false p q e = let c : _≡_ {A = ℕ} 0 1 = cc in absurd (omega arith)
     go false true p q e = let c : _≡_ {A = ℕ} 0 1 = cc in absurd (omega arith)
@@ -230,7 +230,7 @@ pub inverse-proper : (x : Point) → 0 < inverse x .den
 unfolding inverse
 inverse-proper x = go (isNothing x) refl
   where
-    go : (s : Bool) → isNothing x ≡ s → 0 < pick s nothing (turned x) .den
+    go : (s : Bool) → isNothing x ≡ s → 0 < cond s nothing (turned x) .den
     go true e = omega arith
     go false e = norm-pos (x .re) (x .im) (eqb-false (x .re + x .im) 0 e)
 

@@ -12,7 +12,7 @@ use lib.Dec.{leb, ltb, eqb, lit<, lit≤}
 use lib.ListN.{length, getD}
 use borrow.Author.Tests.{eqb-true, eqb-false, eq-eqb, ne-eqb, leb-true, ltb-true, ltb-false}
 use Rattle.algebra.specs.Reading.{from, read, _⊹_, _⋆_}
-use Rattle.enclosure.specs.Point.{pick, Point, nothing, exact, inverse}
+use Rattle.enclosure.specs.Point.{Point, nothing, exact, inverse}
 use Rattle.enclosure.specs.Near.{inverse-proper}
 use Rattle.enclosure.specs.Range.{Factor}
 use Rattle.enclosure.specs.Doubles.{inverted}
@@ -55,7 +55,7 @@ depth-is l zero i = refl
 depth-is l (suc f) i = go (ltb (busAt l i .parent) i) (depth-is l f (busAt l i .parent))
   where
     go : (t : Bool) → toward (λ j. busAt l j .parent) (λ j d. suc d) 0 f (busAt l i .parent) ≡ along anyBranch l f (busAt l i .parent)
-        → pick t (suc (toward (λ j. busAt l j .parent) (λ j d. suc d) 0 f (busAt l i .parent))) 0 ≡ cond t (along anyBranch l f (busAt l i .parent) + 1) 0
+        → cond t (suc (toward (λ j. busAt l j .parent) (λ j d. suc d) 0 f (busAt l i .parent))) 0 ≡ cond t (along anyBranch l f (busAt l i .parent) + 1) 0
     go true e = ap suc e ∙ sym (add-one _)
     go false e = refl
 
@@ -187,7 +187,7 @@ module _ {n : Network} (r : Rebuilt n) where
   referred-least b i lb li e = go (ltb i b) refl
     where
       go : (d : Bool) → ltb i b ≡ d → AtLeast (voltsOf n b) branchMost
-          (pick d (gridOf n .branch b .z) (square exact (gridOf n .branch i .above) (gridOf n .branch i .below) (gridOf n .branch i .z)))
+          (cond d (gridOf n .branch b .z) (square exact (gridOf n .branch i .above) (gridOf n .branch i .below) (gridOf n .branch i .z)))
       go true q = branch-least b (to-parent (parentOf (gridOf n)) b i e q .0) lb
       go false q = let t = to-child (parentOf (gridOf n)) b i e q in subst (λ (c : ℕ). AtLeast (voltsOf n c) branchMost (square exact (gridOf n .branch i .above) (gridOf n .branch i .below) (gridOf n .branch i .z))) (t .1) (branch-least-above i (t .0) li)
 

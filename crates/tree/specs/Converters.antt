@@ -2,13 +2,13 @@
 -- Assumes nothing.
 use Prim.Native.Nat.{ℕ, zero, suc, _+_, _*_, _≤_, _<_}
 use mathlib.Core.Path.{_≡_, refl, _∙_, ap, ap₂}
-use mathlib.Core.Bool.{Bool, true, false}
+use mathlib.Core.Bool.{Bool, true, false, cond}
 use mathlib.Core.Logic.{⊎-elim}
 use native.Mathlib.Omega.{arith}
 use native.Mathlib.Nat.{le-refl, eq-zero-or-pos}
 use native.Mathlib.Numerals.{add-one}
 use lib.Dec.{ltb}
-use Rattle.enclosure.specs.Point.{pick, Point, Ops, exact, sum}
+use Rattle.enclosure.specs.Point.{Point, Ops, exact, sum}
 use Rattle.tree.specs.Walk.{near, over, Gather, walk, walk-related, walk-equation, only-walk, by-number}
 use Rattle.tree.specs.Toward.{toward, toward-more, toward-end, toward-same, depth, depth-more, depth-end}
 use Rattle.tree.specs.Grid.{Grid, parentOf, Treelike, Shaped}
@@ -22,14 +22,14 @@ downward o G i x = o .scale (G .branch i .above) (G .branch i .below) x
 
 -- a current at i, carried to its neighbour b, a child of i or its parent
 unfoldable pub across : {A : Type 0} → Ops A → Grid → ℕ → ℕ → A → A
-across o G b i x = pick (ltb i b) (downward o G b x) (upward o G i x)
+across o G b i x = cond (ltb i b) (downward o G b x) (upward o G i x)
 
 pub across-cases : {A : Type 0} (o : Ops A) (G : Grid) (b i : ℕ) (x : A) (P : A → Type 0)
     → (ltb i b ≡ true → P (downward o G b x)) → (ltb i b ≡ false → P (upward o G i x)) → P (across o G b i x)
 unfolding across
 across-cases o G b i x P parent child = go (ltb i b) refl
   where
-    go : (d : Bool) → ltb i b ≡ d → P (pick d (downward o G b x) (upward o G i x))
+    go : (d : Bool) → ltb i b ≡ d → P (cond d (downward o G b x) (upward o G i x))
     go true q = parent q
     go false q = child q
 

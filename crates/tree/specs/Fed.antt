@@ -2,7 +2,7 @@
 -- Assumes nothing.
 use Prim.Native.Nat.{ℕ, zero, suc, _+_, _*_, _<_}
 use mathlib.Core.Path.{_≡_, refl}
-use mathlib.Core.Bool.{Bool, true, false}
+use mathlib.Core.Bool.{Bool, true, false, cond}
 use mathlib.Core.List.{[], _∷_}
 use native.Mathlib.Omega.{arith}
 use native.Mathlib.Nat.{mul-pos}
@@ -10,7 +10,7 @@ use lib.Dec.{eqb}
 use borrow.Author.Tests.{eqb-true, eqb-false}
 use Rattle.algebra.specs.Reading.{from, read}
 use Rattle.enclosure.specs.Near.{norm-pos, inverse-proper}
-use Rattle.enclosure.specs.Point.{pick, Point, nothing, isNothing, sum, times, turned, inverse, exact}
+use Rattle.enclosure.specs.Point.{Point, nothing, isNothing, sum, times, turned, inverse, exact}
 use Rattle.tree.specs.Walk.{joined, near, near-joined, near-parent, to-parent, to-child, over}
 use Rattle.tree.specs.Grid.{Grid, parentOf, Treelike, through, through-cases, seenBy, seen}
 
@@ -28,7 +28,7 @@ over-proper : (joins : ℕ → Bool) (f : ℕ → Point) (x : Point) (m : ℕ) �
 over-proper joins f x zero z h = z
 over-proper joins f x (suc m) z h = go (joins m) (over-proper joins f x m z h)
   where
-    go : (s : Bool) → 0 < over sum joins f x m .den → 0 < pick s (sum (over sum joins f x m) (f m)) (over sum joins f x m) .den
+    go : (s : Bool) → 0 < over sum joins f x m .den → 0 < cond s (sum (over sum joins f x m) (f m)) (over sum joins f x m) .den
     go true q = mul-pos q (h m)
     go false q = q
 
@@ -53,7 +53,7 @@ fed-inverse : (x : Point) → Fed x → Fed (inverse x)
 unfolding inverse
 fed-inverse x h = go (isNothing x) refl
   where
-    go : (s : Bool) → isNothing x ≡ s → Fed (pick s nothing (turned x))
+    go : (s : Bool) → isNothing x ≡ s → Fed (cond s nothing (turned x))
     go true e = absurd (fed-some x h e)
     go false e = record { proper = norm-pos (x .re) (x .im) (eqb-false (x .re + x .im) 0 e); reactive = mul-pos (h .reactive) (h .proper) }
 
@@ -62,7 +62,7 @@ over-fed : (joins : ℕ → Bool) (f : ℕ → Point) (x : Point) (u m : ℕ) �
 over-fed joins f x u zero z h j g l = absurd (omega arith)
 over-fed joins f x u (suc m) z h j g l = go (joins m) (eqb u m) refl refl (over-fed joins f x u m z h j g)
   where
-    go : (s t : Bool) → joins m ≡ s → eqb u m ≡ t → (u < m → Fed (over sum joins f x m)) → Fed (pick s (sum (over sum joins f x m) (f m)) (over sum joins f x m))
+    go : (s t : Bool) → joins m ≡ s → eqb u m ≡ t → (u < m → Fed (over sum joins f x m)) → Fed (cond s (sum (over sum joins f x m) (f m)) (over sum joins f x m))
     go true true e q r = fed-right (over sum joins f x m) (f m) (over-proper joins f x m z h) (rw (eqb-true u m q) at g)
     go true false e q r = fed-left (over sum joins f x m) (f m) (r (omega (arith, eqb-false u m q))) (h m)
     go false true e q r = let w : joins m ≡ true = rw (eqb-true u m q) at j in let c : _≡_ {A = ℕ} 0 1 = cc in absurd (omega arith)
@@ -72,7 +72,7 @@ over-start : (joins : ℕ → Bool) (f : ℕ → Point) (x : Point) (m : ℕ) �
 over-start joins f x zero g h = g
 over-start joins f x (suc m) g h = go (joins m) (over-start joins f x m g h)
   where
-    go : (s : Bool) → Fed (over sum joins f x m) → Fed (pick s (sum (over sum joins f x m) (f m)) (over sum joins f x m))
+    go : (s : Bool) → Fed (over sum joins f x m) → Fed (cond s (sum (over sum joins f x m) (f m)) (over sum joins f x m))
     go true q = fed-left (over sum joins f x m) (f m) q (h m)
     go false q = q
 

@@ -2,14 +2,14 @@
 -- Assumes nothing.
 use Prim.Native.Nat.{ℕ, zero, suc, _+_, _*_, _^_, _≤_, _<_}
 use mathlib.Core.Path.{_≡_, refl}
-use mathlib.Core.Bool.{Bool, true, false}
+use mathlib.Core.Bool.{Bool, true, false, cond}
 use mathlib.Core.List.{[], _∷_}
 use mathlib.Core.Logic.{inl, inr}
 use native.Mathlib.Omega.{arith}
 use native.Mathlib.Nat.{le-refl, le-trans, le-of-lt, mul-le-mul, mul-le-mul-right, mul-pos}
 use lib.Dec.{ltb, lit≤}
 use Rattle.algebra.specs.Reading.{poly, from, from-over, read, _⊹_, _⋆_}
-use Rattle.enclosure.specs.Point.{pick, Point, sum, inverse, exact}
+use Rattle.enclosure.specs.Point.{Point, sum, inverse, exact}
 use Rattle.enclosure.specs.Near.{Near, NearTo}
 use Rattle.enclosure.specs.Steps.{parts}
 use Rattle.enclosure.specs.Doubles.{doubles}
@@ -195,7 +195,7 @@ module _ (G : Grid) (U : ℕ → ℕ) (sound : Sound G) (levels : Levels G U) (p
   apart : (b i : ℕ) → b < G .count → i < G .count → joined (parentOf G) b i ≡ true → AtLeast 1 (2 ^ 180) (referred G b i)
   apart b i lb li e = go (ltb i b) refl
     where
-      go : (d : Bool) → ltb i b ≡ d → AtLeast 1 (2 ^ 180) (pick d (G .branch b .z) (square exact (G .branch i .above) (G .branch i .below) (G .branch i .z)))
+      go : (d : Bool) → ltb i b ≡ d → AtLeast 1 (2 ^ 180) (cond d (G .branch b .z) (square exact (G .branch i .above) (G .branch i .below) (G .branch i .z)))
       go true q =
           let h = plain .branch b (to-parent (parentOf G) b i e q .0) lb in
           least-own (G .branch b .z .re) (G .branch b .z .im) (G .branch b .z .den) (h .some) (h .fine)
