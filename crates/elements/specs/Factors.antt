@@ -2,17 +2,17 @@
 -- Assumes nothing.
 use Prim.Native.Nat.{ℕ, _+_, _-_, _*_, _/_, _≤_, _<_}
 use mathlib.Core.Path.{_≡_}
+use mathlib.Core.Bool.{cond}
 use native.Mathlib.Omega.{arith}
 use native.Mathlib.Nat.{le-trans, mul-le-mul, mul-le-mul-right, div-mul-le-self, le-div-iff-mul-le}
 use lib.Dec.{leb, eqb}
 use borrow.Author.Tests.{le-leb, lt-leb}
-use Rattle.enclosure.specs.Point.{pick}
 use Rattle.enclosure.specs.Root.{rootOf, rootUp, root-is, root-le, root-below, root-greatest, rootUp-reaches, rootUp-least}
 
 -- "c: 110/100 above 1,000 V; up to and including 1,000 V, 105/100 at tolerance 6 and 110/100 at 10." In hundredths; a
 -- tolerance other than 6 counts as 10
 unfoldable pub factorC : ℕ → ℕ → ℕ
-factorC tolerance volts = pick (leb volts 1000) (pick (eqb tolerance 6) 105 110) 110
+factorC tolerance volts = cond (leb volts 1000) (cond (eqb tolerance 6) 105 110) 110
 
 pub factorC-above : (tolerance volts : ℕ) → 1000 < volts → factorC tolerance volts ≡ 110
 unfolding factorC

@@ -1,27 +1,27 @@
 -- From a near admittance to the machines' bounds and peak, and from a near current to the converters': they keep document 01's comparisons.
 -- Assumes nothing.
 use Prim.Native.Nat.{ℕ, zero, suc, _+_, _-_, _*_, _^_, min, _≤_, _<_}
-use mathlib.Core.Path.{_≡_, refl, sym, _∙_, ap}
+use mathlib.Core.Path.{_≡_, refl, _∙_}
 use mathlib.Core.List.{[], _∷_}
-use mathlib.Core.Logic.{_⊎_, inl, inr, ⊎-elim}
+use mathlib.Core.Logic.{⊎-elim}
 use native.Mathlib.Omega.{arith}
-use native.Mathlib.Nat.{le-refl, le-trans, lt-of-not-le, mul-le-mul, mul-pos, min-eq-left}
+use native.Mathlib.Nat.{le-refl, lt-of-not-le, mul-le-mul, mul-pos, min-eq-left}
 use native.Mathlib.Numerals.{add-one}
 use lib.Dec.{le→leb, lit<, lit≤}
 use lib.Pow.{pow-mono}
-use Rattle.algebra.specs.Reading.{poly, from, from-over, read, _⊹_, _⋆_}
+use Rattle.algebra.specs.Reading.{from, from-over, read, _⊹_, _⋆_}
 use Rattle.enclosure.specs.Close.{norm}
 use Rattle.enclosure.specs.Root.{below-of-squares}
-use Rattle.enclosure.specs.Point.{Point, times, exact}
+use Rattle.enclosure.specs.Point.{Point, times}
 use borrow.Author.Tests.{eqb-true, eq-eqb}
-use Rattle.enclosure.specs.Near.{Near, NearTo, Rules, fair-rules, near-nothing}
+use Rattle.enclosure.specs.Near.{Near, NearTo, near-nothing}
 use Rattle.enclosure.specs.declared.Complex.{Complex}
 use Rattle.enclosure.specs.Steps.{parts}
-use Rattle.enclosure.specs.Units.{unit, extent}
-use Rattle.enclosure.specs.Doubles.{scaled, doubles, lowerOf, upperOf}
+use Rattle.enclosure.specs.Units.{extent, Between, Sized}
+use Rattle.enclosure.specs.Doubles.{scaled, lowerOf, upperOf}
 use Rattle.enclosure.specs.Fair.{value, size, Fine}
-use Rattle.enclosure.specs.Range.{Between, reach, Good, Volts, doubles-fair}
-use Rattle.enclosure.specs.Amperes.{Enclosed, Extent, encloses}
+use Rattle.enclosure.specs.Range.{reach, Good, good-sized, Factor, f64-rules}
+use Rattle.enclosure.specs.Amperes.{Enclosed, encloses}
 use Rattle.elements.specs.Exponential.{tOver, tUnder, t-least, tOver-pos}
 use Rattle.elements.specs.PeakTable.{peakFactor, ceiling, ceiling-least}
 use Rattle.elements.specs.Peak.{PeakBound, peakOver, peakUnder, peak-bound, Index}
@@ -34,20 +34,8 @@ reach-extent : (d : ℕ) → d ≤ 50 → reach 200 d ≤ extent
 unfolding extent
 reach-extent d l = let m : 200 + 5 * d ≤ 450 = omega arith in pow-mono m
 
-wide : (e f u s : ℕ) → e ≤ f → (u ≤ s * e) × (s ≤ u * e) → (u ≤ s * f) × (s ≤ u * f)
-wide e f u s l h = (
-  from (e ∷ f ∷ u ∷ s ∷ []) (h .0 ⊹ s ⋆ l) (search read depth 40 fits 20000) refl,
-  from (e ∷ f ∷ u ∷ s ∷ []) (h .1 ⊹ u ⋆ l) (search read depth 40 fits 20000) refl,
-)
-
-good-extent : (k₀ k : ℕ) (z : Complex) → k - k₀ ≤ 50 → Good 200 k₀ k z → Extent (size z)
-good-extent k₀ k z l g = ⊎-elim (λ e. inl e) (λ h. inr (wide (reach 200 (k - k₀)) extent unit (size z) (reach-extent (k - k₀) l) (h .1))) (g .range)
-
-products : (k : ℕ) → k ≤ 900000 → 2 * ((k + 46) * (k + 46 + 1)) ≤ 1 * parts
-products k l = let p : k + 46 ≤ 900046 = omega arith in let q : k + 46 + 1 ≤ 900047 = omega arith in omega (arith, mul-le-mul p q)
-
-rules : (k : ℕ) → k ≤ 900000 → Rules exact doubles (NearTo value (Good 200 k) parts) Volts (k + 46) 4 13 8
-rules k l = fair-rules doubles value (Good 200 k) Volts parts (k + 46) 2 6 4 1 (omega arith) (omega arith) (omega arith) (products k l) (doubles-fair 200 k (k + 46) (omega arith))
+good-extent : (k₀ k : ℕ) (z : Complex) → k - k₀ ≤ 50 → Good 200 k₀ k z → Sized extent (size z)
+good-extent k₀ k z l = good-sized 200 extent k₀ k z (reach-extent (k - k₀) l)
 
 -- √3·I as an exact point: c·Un·Y, c in hundredths
 abbrev pub driven : ℕ → ℕ → Point → Point
@@ -61,17 +49,15 @@ abbrev pub squareUnder : Point → ℕ
 squareUnder P = 30000 * (P .den * P .den)
 
 -- ---- over plain numbers: the point is (A, B)/D
-current-room : (c u A B D : ℕ) → c * u * (c * u) * norm A B ≤ 2 ^ 100 * (10000 * (D * D)) → 1 * norm (A * u * c) (B * u * c) ≤ 3 * (2 ^ 104 * (D * 1 * 100 * (D * 1 * 100)))
-current-room c u A B D h = from (c ∷ u ∷ A ∷ B ∷ D ∷ []) h (search read depth 40 fits 20000) refl
-
-peak-room : (K c u A B D : ℕ) → K ≤ 2000 → c * u * (c * u) * norm A B ≤ 2 ^ 100 * (10000 * (D * D)) → 2 * norm (A * u * c * K) (B * u * c * K) ≤ 3 * (2 ^ 104 * (D * 1 * 100 * 1000 * (D * 1 * 100 * 1000)))
-peak-room K c u A B D l h = from (K ∷ c ∷ u ∷ A ∷ B ∷ D ∷ []) (2 * (c * u * (c * u) * norm A B) ⋆ mul-le-mul l l ⊹ 8000000 ⋆ h) (search read depth 40 fits 20000) refl
-
 current-few : (c u A B D : ℕ) → c * u * (c * u) * norm A B ≤ 2 ^ 100 * (10000 * (D * D)) → 1 * norm (A * u * c) (B * u * c) ≤ 3 * (3 * 2 ^ 100 * (D * 1 * 100 * (D * 1 * 100)))
 current-few c u A B D h = from (c ∷ u ∷ A ∷ B ∷ D ∷ []) h (search read depth 40 fits 20000) refl
 
-peak-small : (K c u A B D : ℕ) → K ≤ 2000 → c * u * (c * u) * norm A B ≤ 2 ^ 100 * (10000 * (D * D)) → 2 * norm (A * u * c * K) (B * u * c * K) ≤ 3 * (3 * 2 ^ 100 * (D * 1 * 100 * 1000 * (D * 1 * 100 * 1000)))
-peak-small K c u A B D l h = from (K ∷ c ∷ u ∷ A ∷ B ∷ D ∷ []) (2 * (c * u * (c * u) * norm A B) ⋆ mul-le-mul l l ⊹ 8000000 ⋆ h) (search read depth 40 fits 20000) refl
+peak-few : (K c u A B D : ℕ) → K ≤ 2000 → c * u * (c * u) * norm A B ≤ 2 ^ 100 * (10000 * (D * D)) → 2 * norm (A * u * c * K) (B * u * c * K) ≤ 3 * (3 * 2 ^ 100 * (D * 1 * 100 * 1000 * (D * 1 * 100 * 1000)))
+peak-few K c u A B D l h = from (K ∷ c ∷ u ∷ A ∷ B ∷ D ∷ []) (2 * (c * u * (c * u) * norm A B) ⋆ mul-le-mul l l ⊹ 8000000 ⋆ h) (search read depth 40 fits 20000) refl
+
+-- what is that small has whole bounds
+roomy : (q d X : ℕ) → X ≤ q * (3 * 2 ^ 100 * d) → X ≤ q * (2 ^ 104 * d)
+roomy q d X h = from (q ∷ d ∷ X ∷ []) h (search read depth 40 fits 20000) refl
 
 peak-over : (K c u A B D n : ℕ) → 2 * norm (A * u * c * K) (B * u * c * K) ≤ 3 * (n * n * (D * 1 * 100 * 1000 * (D * 1 * 100 * 1000))) → 2 * (c * u * (c * u) * norm A B) * (K * K) ≤ 1000000 * (30000 * (D * D) * (n * n))
 peak-over K c u A B D n h = from (K ∷ c ∷ u ∷ A ∷ B ∷ D ∷ n ∷ []) h (search read depth 40 fits 20000) refl
@@ -101,14 +87,14 @@ pub record MachineFigures (c Un : ℕ) (P : Point) (y : Complex) : Type 0 where
   pub upper-few : upperOf 1 3 (currentBy c Un y) ≤ 2 ^ 51
   pub peak-few : machinePeakBy c Un y ≤ 2 ^ 51
 
-module _ (c Un k : ℕ) (P : Point) (y : Complex) (c₀ : 0 < c) (c₁ : c ≤ 110) (u : Volts Un) (few : k ≤ 900000) (h : NearTo value (Good 200 k) parts k P y) (B₀ : 0 < P .im)
+module _ (c Un k : ℕ) (P : Point) (y : Complex) (c₀ : 0 < c) (c₁ : c ≤ 110) (u : Factor Un) (few : k ≤ 900000) (h : NearTo value (Good 200 k) parts k P y) (B₀ : 0 < P .im)
     (room : c * Un * (c * Un) * norm (P .re) (P .im) ≤ 2 ^ 100 * (10000 * (P .den * P .den))) where
   current-near : NearTo value (Good 200 k) parts (k + 8 + 8) (driven c Un P) (currentBy c Un y)
   unfolding currentBy
-  current-near = rules k few .near-scale (k + 8) c 100 _ _ (c₀, omega arith) (omega arith, omega arith) (omega arith) (rules k few .near-scale k Un 1 P y u (omega arith, omega arith) (omega arith) h)
+  current-near = f64-rules k (omega arith) .near-scale (k + 8) c 100 _ _ (c₀, omega arith) (omega arith, omega arith) (omega arith) (f64-rules k (omega arith) .near-scale k Un 1 P y u (omega arith, omega arith) (omega arith) h)
 
   -- the admittance is not nothing, since its imaginary part is not
-  sized : (unit ≤ size y * extent) × (size y ≤ unit * extent)
+  sized : Between extent (size y)
   sized = ⊎-elim (λ e. absurd (gone e)) (λ x. x) (good-extent k k y (omega arith) (h .1))
     where
       gone : size y ≡ 0 → ⊥
@@ -125,18 +111,18 @@ module _ (c Un k : ℕ) (P : Point) (y : Complex) (c₀ : 0 < c) (c₁ : c ≤ 1
   peak-near : NearTo value (Good 200 k) parts (k + 8 + 8 + 8) (times (peakFactor (min (placeOf y) 230)) 1000 (driven c Un P)) (scaled (peakFactor (min (placeOf y) 230)) 1000 (currentBy c Un y))
   peak-near =
       let b = peakFactor-sized (min (placeOf y) 230) in
-      rules k few .near-scale (k + 8 + 8) _ 1000 _ _ (omega (arith, b .0), omega (arith, b .1)) (omega arith, omega arith) (omega arith) current-near
+      f64-rules k (omega arith) .near-scale (k + 8 + 8) _ 1000 _ _ (omega (arith, b .0), omega (arith, b .1)) (omega arith, omega arith) (omega arith) current-near
 
   peak-encloses : Enclosed 2 3 (times (peakFactor (min (placeOf y) 230)) 1000 (driven c Un P)) (lowerOf 2 3 (scaled (peakFactor (min (placeOf y) 230)) 1000 (currentBy c Un y))) (machinePeakBy c Un y)
   unfolding machinePeakBy
   peak-encloses =
       encloses _ (k + 8 + 8 + 8) _ 2 3 (peak-near .1 .fine) (good-extent k (k + 8 + 8 + 8) _ (omega arith) (peak-near .1)) (omega arith) (peak-near .0) (lit< tt) (lit< tt) (lit< tt) (lit< tt)
-      (peak-room (peakFactor (min (placeOf y) 230)) c Un (P .re) (P .im) (P .den) (peakFactor-sized (min (placeOf y) 230) .1) room)
+      (roomy 3 _ _ (peak-few (peakFactor (min (placeOf y) 230)) c Un (P .re) (P .im) (P .den) (peakFactor-sized (min (placeOf y) 230) .1) room))
 
   encloses-current : Enclosed 1 3 (driven c Un P) (lowerOf 1 3 (currentBy c Un y)) (upperOf 1 3 (currentBy c Un y))
   encloses-current =
       encloses _ (k + 8 + 8) _ 1 3 (current-near .1 .fine) (good-extent k (k + 8 + 8) _ (omega arith) (current-near .1)) (omega arith) (current-near .0) (lit< tt) (lit< tt) (lit< tt) (lit< tt)
-      (current-room c Un (P .re) (P .im) (P .den) room)
+      (roomy 3 _ _ (current-few c Un (P .re) (P .im) (P .den) room))
 
   pub machine-figures : MachineFigures c Un P y
   machine-figures = record {
@@ -146,7 +132,7 @@ module _ (c Un k : ℕ) (P : Point) (y : Complex) (c₀ : 0 < c) (c₁ : c ≤ 1
         (rw at-index at (peak-over (peakFactor (min (placeOf y) 230)) c Un (P .re) (P .im) (P .den) (machinePeakBy c Un y) (peak-encloses .above)))
         (λ m e. rw at-index at (peak-far (peakFactor (min (placeOf y) 230)) c Un (P .re) (P .im) (P .den) m (peak-encloses .near (m + 3) (omega arith))));
     upper-few = upper-few _ 3 (P .den * 1 * 100) _ (mul-pos (lit< tt) (mul-pos (times-pos (h .0 .left)) (times-pos (h .0 .left)))) (current-few c Un (P .re) (P .im) (P .den) room) (encloses-current .near);
-    peak-few = upper-few _ 3 (P .den * 1 * 100 * 1000) _ (mul-pos (lit< tt) (mul-pos (mul-pos (times-pos (h .0 .left)) (lit< tt)) (mul-pos (times-pos (h .0 .left)) (lit< tt)))) (peak-small (peakFactor (min (placeOf y) 230)) c Un (P .re) (P .im) (P .den) (peakFactor-sized (min (placeOf y) 230) .1) room) (peak-encloses .near);
+    peak-few = upper-few _ 3 (P .den * 1 * 100 * 1000) _ (mul-pos (lit< tt) (mul-pos (mul-pos (times-pos (h .0 .left)) (lit< tt)) (mul-pos (times-pos (h .0 .left)) (lit< tt)))) (peak-few (peakFactor (min (placeOf y) 230)) c Un (P .re) (P .im) (P .den) (peakFactor-sized (min (placeOf y) 230) .1) room) (peak-encloses .near);
   }
     where
       times-pos : {d : ℕ} → 0 < d → 0 < d * 1 * 100
@@ -159,7 +145,7 @@ pub record ConverterFigures (P : Point) (x : Complex) : Type 0 where
   pub upper-few : upperOf 1 1 x ≤ 2 ^ 51
   pub peak-few : converterPeakBy x ≤ 2 ^ 51
 
-pub converter-figures : (k : ℕ) (P : Point) (x : Complex) → k ≤ 1000000 → Near parts k P (value x) → Fine x → Extent (size x)
+pub converter-figures : (k : ℕ) (P : Point) (x : Complex) → k ≤ 1000000 → Near parts k P (value x) → Fine x → Sized extent (size x)
     → norm (P .re) (P .im) ≤ 2 ^ 100 * (P .den * P .den) → ConverterFigures P x
 unfolding converterPeakBy
 converter-figures k P x few h f s room = record {
@@ -168,27 +154,18 @@ converter-figures k P x few h f s room = record {
     no-lower = least (norm (P .re) (P .im)) (upperOf 2 1 x) (P .den) (e .above);
     near = λ m d. far (norm (P .re) (P .im)) m (P .den) (e .near (m + 3) (omega arith));
   };
-  upper-few = upper-few _ 1 (P .den) _ (mul-pos (lit< tt) (mul-pos (h .left) (h .left))) (three (norm (P .re) (P .im)) (P .den * P .den) room) (e₁ .near);
-  peak-few = upper-few _ 1 (P .den) _ (mul-pos (lit< tt) (mul-pos (h .left) (h .left))) (six (norm (P .re) (P .im)) (P .den * P .den) room) (e .near);
+  upper-few = upper-few _ 1 (P .den) _ (mul-pos (lit< tt) (mul-pos (h .left) (h .left))) (fewer 1 (lit≤ tt)) (e₁ .near);
+  peak-few = upper-few _ 1 (P .den) _ (mul-pos (lit< tt) (mul-pos (h .left) (h .left))) (fewer 2 (lit≤ tt)) (e .near);
 }
   where
-    one : (n d : ℕ) → n ≤ 2 ^ 100 * d → 1 * n ≤ 1 * (2 ^ 104 * d)
-    one n d h = omega arith
-
-    three : (n d : ℕ) → n ≤ 2 ^ 100 * d → 1 * n ≤ 1 * (3 * 2 ^ 100 * d)
-    three n d h = omega arith
-
-    six : (n d : ℕ) → n ≤ 2 ^ 100 * d → 2 * n ≤ 1 * (3 * 2 ^ 100 * d)
-    six n d h = omega arith
+    fewer : (c : ℕ) → c ≤ 2 → c * norm (P .re) (P .im) ≤ 1 * (3 * 2 ^ 100 * (P .den * P .den))
+    fewer c l = from (c ∷ P .re ∷ P .im ∷ P .den ∷ []) (norm (P .re) (P .im) ⋆ l ⊹ 2 ⋆ room) (search read depth 40 fits 20000) refl
 
     e₁ : Enclosed 1 1 P (lowerOf 1 1 x) (upperOf 1 1 x)
-    e₁ = encloses x k P 1 1 f s few h (lit< tt) (lit< tt) (lit< tt) (lit< tt) (one (norm (P .re) (P .im)) (P .den * P .den) room)
-
-    two : (n d : ℕ) → n ≤ 2 ^ 100 * d → 2 * n ≤ 1 * (2 ^ 104 * d)
-    two n d h = omega arith
+    e₁ = encloses x k P 1 1 f s few h (lit< tt) (lit< tt) (lit< tt) (lit< tt) (roomy 1 _ _ (fewer 1 (lit≤ tt)))
 
     e : Enclosed 2 1 P (lowerOf 2 1 x) (upperOf 2 1 x)
-    e = encloses x k P 2 1 f s few h (lit< tt) (lit< tt) (lit< tt) (lit< tt) (two (norm (P .re) (P .im)) (P .den * P .den) room)
+    e = encloses x k P 2 1 f s few h (lit< tt) (lit< tt) (lit< tt) (lit< tt) (roomy 1 _ _ (fewer 2 (lit≤ tt)))
 
     least : (n u d : ℕ) → 2 * n ≤ 1 * (u * u * (d * d)) → 2 * n ≤ u * u * (d * d)
     least n u d h = omega arith

@@ -1,21 +1,19 @@
 -- Each calculated impedance is within a few parts in 2 ^ 53 of the exact one, by the rules of the enclosing arithmetic.
 -- Assumes nothing.
-use Prim.Native.Nat.{ℕ, zero, suc, _+_, _*_, _^_, _≤_, _<_}
+use Prim.Native.Nat.{ℕ, _+_, _*_, _^_, _≤_, _<_}
 use mathlib.Core.Path.{_≡_, refl}
-use mathlib.Core.Bool.{Bool, true, false, _&&_}
 use mathlib.Core.List.{[], _∷_}
 use native.Mathlib.Omega.{arith}
-use native.Mathlib.Nat.{le-refl, le-trans, mul-le-mul, mul-pos}
-use lib.Dec.{leb, lit≤}
+use native.Mathlib.Nat.{mul-le-mul, mul-pos}
 use borrow.Author.Tests.{le-leb}
 use Rattle.algebra.specs.Reading.{identity, read}
-use Rattle.enclosure.specs.Point.{pick, Point, times, inverse, exact}
-use Rattle.enclosure.specs.Near.{Near, NearTo, Same, near-same, Rules, fair-rules}
+use Rattle.enclosure.specs.Point.{Point, times, inverse}
+use Rattle.enclosure.specs.Near.{NearTo, Same, near-same}
 use Rattle.enclosure.specs.declared.Complex.{Complex}
 use Rattle.enclosure.specs.Steps.{parts}
-use Rattle.enclosure.specs.Doubles.{whole, scaled, inverted, doubles}
-use Rattle.enclosure.specs.Fair.{value, Fine}
-use Rattle.enclosure.specs.Range.{Good, Volts, doubles-fair}
+use Rattle.enclosure.specs.Doubles.{whole, scaled, inverted}
+use Rattle.enclosure.specs.Fair.{value}
+use Rattle.enclosure.specs.Range.{Good, Factor, f64-rules}
 use Rattle.enclosure.specs.Start.{whole-near}
 use Rattle.elements.specs.Factors.{factorC, sineOf, uxOf, ux-most, splitOf}
 use Rattle.elements.specs.Sizes.{split-re-most, split-im-most, factorC-sized, saturation-most}
@@ -26,15 +24,12 @@ use Rattle.elements.specs.Rounded.{lineBy, transformerBy, splitBy, feede
 abbrev pub Calculated : ℕ → Point → Complex → Type 0
 Calculated = NearTo value (Good 200 0) parts
 
-rules : Rules exact doubles Calculated Volts 50 4 13 8
-rules = fair-rules doubles value (Good 200 0) Volts parts 50 2 6 4 1 (omega arith) (omega arith) (omega arith) (omega arith) (doubles-fair 200 0 50 (omega arith))
-
 -- a pair of whole numbers, and ratios one after the other
 start : (a b : ℕ) → a < 2 ^ 32 → b < 2 ^ 32 → Calculated 0 (record { re = a; im = b; den = 1 }) (whole a b)
 start = whole-near
 
-by : (k p q : ℕ) (x : Point) (z : Complex) → k ≤ 50 → Volts p → Volts q → Calculated k x z → Calculated (k + 8) (times p q x) (scaled p q z)
-by k p q x z l hp hq h = rules .near-scale k p q x z hp hq l h
+by : (k p q : ℕ) (x : Point) (z : Complex) → k ≤ 50 → Factor p → Factor q → Calculated k x z → Calculated (k + 8) (times p q x) (scaled p q z)
+by k p q x z l hp hq h = f64-rules 0 (omega arith) .near-scale k p q x z hp hq l h
 
 -- the same point in another form
 equal : (k : ℕ) (x y : Point) (z : Complex) → 0 < y .den → Same x y → Calculated k x z → Calculated k y z
@@ -42,9 +37,9 @@ equal k x y z d s h = (near-same parts k x y (value z) d s (h .0), h .1)
 
 -- THE ADMITTANCE of a machine, from its impedance
 pub admittance-near : (k : ℕ) (x : Point) (z : Complex) → k ≤ 50 → Calculated k x z → Calculated (k + 13) (inverse x) (inverted z)
-admittance-near k x z l h = rules .near-inverse k x z l h
+admittance-near k x z l h = f64-rules 0 (omega arith) .near-inverse k x z l h
 
-pub line-near : (r x metres circuits : ℕ) → r < 2 ^ 32 → x < 2 ^ 32 → Volts metres → Volts circuits → Calculated 16 (line r x metres circuits) (lineBy r x metres circuits)
+pub line-near : (r x metres circuits : ℕ) → r < 2 ^ 32 → x < 2 ^ 32 → Factor metres → Factor circuits → Calculated 16 (line r x metres circuits) (lineBy r x metres circuits)
 unfolding line lineBy
 line-near r x metres circuits hr hx hm hc =
     equal 16 (times 1 1000000 (times metres circuits (record { re = r; im = x; den = 1 }))) (times metres (circuits * 1000000) (record { re = r; im = x; den = 1 })) _
@@ -55,7 +50,7 @@ line-near r x metres circuits hr hx hm hc =
     same : (a : ℕ) → a * metres * 1 * (1 * (circuits * 1000000)) ≡ a * metres * (1 * circuits * 1000000)
     same a = identity (a ∷ metres ∷ circuits ∷ []) (search read depth 40 fits 20000) refl
 
-pub converter-near : (tenths k : ℕ) → tenths < 2 ^ 32 → Volts k → Calculated 8 (converter tenths k) (converterBy tenths k)
+pub converter-near : (tenths k : ℕ) → tenths < 2 ^ 32 → Factor k → Calculated 8 (converter tenths k) (converterBy tenths k)
 unfolding converter converterBy
 converter-near tenths k ht hk =
     equal 8 (times k 1000 (record { re = tenths; im = 0; den = 1 })) (record { re = tenths * k; im = 0; den = 1000 }) _ (omega arith)
@@ -63,13 +58,13 @@ converter-near tenths k ht hk =
     (by 0 k 1000 _ _ (omega arith) hk (omega arith, omega arith) (start tenths 0 ht (omega arith)))
 
 -- K_T's numerator and denominator
-correction : (tolerance volts uk uR : ℕ) → uk ≤ 30000 → Volts (9500 * factorC tolerance volts) × Volts (1000000 + 6 * uxOf uk uR)
+correction : (tolerance volts uk uR : ℕ) → uk ≤ 30000 → Factor (9500 * factorC tolerance volts) × Factor (1000000 + 6 * uxOf uk uR)
 correction tolerance volts uk uR h =
     let c = factorC-sized tolerance volts in
     let u = ux-most uk uR in
     ((omega (arith, c .0), omega (arith, c .1)), (omega arith, omega arith))
 
-pub transformer-near : (tolerance lower own kVA uk uR : ℕ) → uk ≤ 30000 → uR < 2 ^ 32 → Volts own → Volts kVA
+pub transformer-near : (tolerance lower own kVA uk uR : ℕ) → uk ≤ 30000 → uR < 2 ^ 32 → Factor own → Factor kVA
     → Calculated 24 (transformer tolerance lower own kVA uk uR) (transformerBy tolerance lower own kVA uk uR)
 unfolding transformer transformerBy
 transformer-near tolerance lower own kVA uk uR hk hr ho hv =
@@ -79,7 +74,7 @@ transformer-near tolerance lower own kVA uk uR hk hr ho hv =
     same : (a c x : ℕ) → a * own * own * (9500 * c) * (100000 * (1000 * kVA) * (1000000 + 6 * x)) ≡ a * (own * own) * (9500 * c) * (1 * kVA * 100000000 * (1000000 + 6 * x))
     same a c x = identity (a ∷ own ∷ c ∷ kVA ∷ x ∷ []) (search read depth 40 fits 20000) refl
 
-    go : (c x : ℕ) → Volts (9500 * c) × Volts (1000000 + 6 * x) → x < 2 ^ 32
+    go : (c x : ℕ) → Factor (9500 * c) × Factor (1000000 + 6 * x) → x < 2 ^ 32
         → Calculated 24 (times (9500 * c) (1000000 + 6 * x) (times (own * own) (1000 * kVA) (record { re = uR; im = x; den = 100000 })))
         (scaled (9500 * c) (1000000 + 6 * x) (scaled own 100000000 (scaled own kVA (whole uR x))))
     go c x v l =
@@ -94,7 +89,7 @@ split-start : (ρ : ℕ) → Calculated 0 (record { re = splitOf ρ * ρ; im = s
 unfolding splitBy
 split-start ρ = start (splitOf ρ * ρ) (splitOf ρ * 100) (omega (arith, split-re-most ρ)) (omega (arith, split-im-most ρ))
 
-pub feeder-near : (tolerance Un kVA ρ : ℕ) → Volts Un → Volts kVA → Calculated 24 (feeder tolerance Un kVA ρ) (feederBy tolerance Un kVA ρ)
+pub feeder-near : (tolerance Un kVA ρ : ℕ) → Factor Un → Factor kVA → Calculated 24 (feeder tolerance Un kVA ρ) (feederBy tolerance Un kVA ρ)
 unfolding feeder feederBy split
 feeder-near tolerance Un kVA ρ hu hv = go (factorC tolerance Un) (splitOf ρ * ρ) (splitOf ρ * 100) (factorC-sized tolerance Un) (split-start ρ)
   where
@@ -110,7 +105,7 @@ feeder-near tolerance Un kVA ρ hu hv = go (factorC tolerance Un) (splitOf ρ * 
         (by 16 c 100000000 _ _ (omega arith) (omega arith, omega arith) (omega arith, omega arith)
         (by 8 Un 100000 _ _ (omega arith) hu (omega arith, omega arith) (by 0 Un kVA _ _ (omega arith) hu hv s)))
 
-pub motor-near : (Ur kVA ratio ρ : ℕ) → Volts Ur → Volts kVA → Volts ratio → Calculated 32 (motor Ur kVA ratio ρ) (motorBy Ur kVA ratio ρ)
+pub motor-near : (Ur kVA ratio ρ : ℕ) → Factor Ur → Factor kVA → Factor ratio → Calculated 32 (motor Ur kVA ratio ρ) (motorBy Ur kVA ratio ρ)
 unfolding motor motorBy split
 motor-near Ur kVA ratio ρ hu hv hr =
     equal 32 (times 1 100000 (times 1 100000 (times Ur ratio (times Ur kVA (record { re = splitOf ρ * ρ; im = splitOf ρ * 100; den = 1 }))))) _ _
@@ -123,7 +118,7 @@ motor-near Ur kVA ratio ρ hu hv hr =
     same : (a : ℕ) → a * Ur * Ur * 1 * 1 * (100000000 * (ratio * (1000 * kVA))) ≡ a * (10 * (Ur * Ur)) * (1 * kVA * ratio * 100000 * 100000)
     same a = identity (a ∷ Ur ∷ kVA ∷ ratio ∷ []) (search read depth 40 fits 20000) refl
 
-pub generator-near : (tolerance Un Ur kVA xd ρ powerFactor : ℕ) → xd ≤ 100000 → ρ ≤ 200 → Volts Un → Volts Ur → Volts kVA
+pub generator-near : (tolerance Un Ur kVA xd ρ powerFactor : ℕ) → xd ≤ 100000 → ρ ≤ 200 → Factor Un → Factor Ur → Factor kVA
     → Calculated 24 (generator tolerance Un Ur kVA xd ρ powerFactor) (generatorBy tolerance Un Ur kVA xd ρ powerFactor)
 unfolding generator generatorBy
 generator-near tolerance Un Ur kVA xd ρ powerFactor hx hρ hn hr hv =

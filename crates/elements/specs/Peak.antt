@@ -85,13 +85,13 @@ peak-bound P Q R X i n z x least most = record {
         from-over (P ∷ Q ∷ m ∷ k ∷ N ∷ C ∷ []) 1000000 (omega arith) (N * N ⋆ h ⊹ 2 * P ⋆ mul-le-mul f f) (search read depth 40 fits 20000) refl
 
 -- ---- R, X and I² in other terms: a peak stays a peak
+times-three : (R k : ℕ) → 3 * (R * k) ≡ 3 * R * k
+times-three R k = omega arith
+
 crest-scale : (R X k : ℕ) → crest (R * k) (X * k) ≡ crest R X * k ^ 24
 unfolding crest
 crest-scale R X k = rw (times-three R k, tOver-scale (3 * R) X k, tUnder-scale X k) (put (tOver (3 * R) X) (tUnder X) (k ^ 24))
   where
-    times-three : (R k : ℕ) → 3 * (R * k) ≡ 3 * R * k
-    times-three R k = omega arith
-
     put : (a b p : ℕ) → 102 * (a * p) + 98 * (b * p) ≡ (102 * a + 98 * b) * p
     put a b p = omega arith
 
@@ -106,9 +106,6 @@ unfolding peakOver peakUnder
 peak-scale n P Q R X s k h =
     rw (crest-scale R X k, times-three R k, tOver-scale (3 * R) X k, over (crest R X) (k ^ 24), under (tOver (3 * R) X) (k ^ 24)) (bound-scale n _ _ (s * (k ^ 24 * k ^ 24)) h)
   where
-    times-three : (R k : ℕ) → 3 * (R * k) ≡ 3 * R * k
-    times-three R k = omega arith
-
     over : (c p : ℕ) → 2 * (P * s) * (c * p * (c * p)) ≡ 2 * P * (c * c) * (s * (p * p))
     over c p = identity (P ∷ s ∷ c ∷ p ∷ []) (search read depth 40 fits 20000) refl
 

@@ -1,11 +1,10 @@
 -- The entry of the peak table for a calculated admittance: R/X of the impedance is G/B of the admittance, and i/100 stays below it.
 -- Document 01, "Slips": R/X is never rounded up before the peak table.
 use Prim.Native.Nat.{ℕ}
-use mathlib.Core.Bool.{Bool, false}
+use mathlib.Core.Bool.{Bool, false, cond}
 use lib.Dec.{ltb}
 use lib.Ieee.{Float, binary64, ofBits, add, mul, le}
 use Rattle.enclosure.specs.declared.Complex.{Complex}
-use Rattle.enclosure.specs.Point.{pick}
 use Rattle.enclosure.specs.Units.{ofNat}
 use Rattle.enclosure.specs.Doubles.{climb}
 
@@ -18,7 +17,7 @@ hundred = ofBits binary64 0x4059_0000_0000_0000
 
 -- i·B and a margin are at most 100·G, in f64; never past the table's end
 unfoldable pub fitsAt : Complex → ℕ → Bool
-fitsAt y i = pick (ltb 230 i) false (le (add binary64 (mul binary64 (ofNat i) (y .im)) (mul binary64 (add binary64 (y .re) (y .im)) margin)) (mul binary64 hundred (y .re)))
+fitsAt y i = cond (ltb 230 i) false (le (add binary64 (mul binary64 (ofNat i) (y .im)) (mul binary64 (add binary64 (y .re) (y .im)) margin)) (mul binary64 hundred (y .re)))
 
 -- the greatest i that fits, bit by bit; 0 where none does
 unfoldable pub placeOf : Complex → ℕ

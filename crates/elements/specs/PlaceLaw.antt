@@ -1,25 +1,25 @@
--- The calculated place keeps below R/X, and within a tenth of a step of it.
+-- The calculated place is not above R/X, and less than 1.1 steps below it where the table goes on.
 -- Assumes nothing.
-use Prim.Native.Nat.{ℕ, zero, suc, _+_, _-_, _*_, _^_, _≤_, _<_}
+use Prim.Native.Nat.{ℕ, zero, suc, _+_, _*_, _^_, _≤_, _<_}
 use mathlib.Core.Path.{_≡_, refl, sym, _∙_}
 use mathlib.Core.Bool.{Bool, true, false, true≢false}
 use mathlib.Core.List.{[], _∷_}
-use mathlib.Core.Logic.{_⊎_, inl, inr, ⊎-elim}
+use mathlib.Core.Logic.{inr, ⊎-elim}
 use native.Mathlib.Omega.{arith}
-use native.Mathlib.Nat.{le-refl, le-trans, le-of-lt, lt-of-not-le, mul-le-mul, mul-pos}
+use native.Mathlib.Nat.{le-trans, le-of-lt, lt-of-not-le, mul-pos}
 use lib.Dec.{ltb, le→leb, lit<, lit≤}
 use borrow.Author.Tests.{lt-ltb, le-ltb, ltb-true, ltb-false}
-use lib.Ieee.{Float, binary64, ofBits, add, mul, le}
+use lib.Ieee.{binary64, ofBits, add, mul}
 use Rattle.algebra.specs.Reading.{poly, from, from-over, read, _⊹_, _⋆_}
 use Rattle.enclosure.specs.Close.{Close, close-part, close-swap}
-use Rattle.enclosure.specs.Point.{pick, Point}
+use Rattle.enclosure.specs.Point.{Point}
 use Rattle.enclosure.specs.Near.{Near}
 use Rattle.enclosure.specs.declared.Complex.{Complex}
 use Rattle.enclosure.specs.Rounding.{Rounds}
-use Rattle.enclosure.specs.Units.{unit, unit-pos, most, extent, extent-pos, extent-unit, extent-most, sliver, sliver-unit, Is, unitsOf, Rounded, add-rounds, mul-rounds, ofNat}
+use Rattle.enclosure.specs.Units.{unit, unit-pos, most, span, span-pos, span-unit, span-most, extent, Between, between-more, extent-span, extent-pos, extent-unit, extent-most, sliver, sliver-unit, Is, unitsOf, Rounded, add-rounds, mul-rounds, ofNat}
 use Rattle.enclosure.specs.Start.{is-whole}
 use Rattle.enclosure.specs.Steps.{parts}
-use Rattle.enclosure.specs.Fair.{value, size, Fine}
+use Rattle.enclosure.specs.Fair.{value, size, Fine, least, fits}
 use Rattle.enclosure.specs.Amperes.{le-units, nle-units}
 use Rattle.enclosure.specs.Climb.{Top, climb-top}
 use Rattle.enclosure.specs.Doubles.{climb}
@@ -94,12 +94,6 @@ hundred-is = (refl, omega arith)
 
 -- ---- sizes over plain numbers: e is the extent, m the most
 module _ (L e m a b : ℕ) (L₀ : 0 < L) (e₀ : 0 < e) (eL : e * e * 2 ^ 120 ≤ L) (em : e * e * 2 ^ 60 ≤ m) (lo : L ≤ (a + b) * e) (hi : a + b ≤ L * e) where
-  size-big : 2 ^ 60 ≤ a + b
-  size-big = from-over (L ∷ e ∷ a ∷ b ∷ []) e e₀ (lo ⊹ eL ⊹ e * 2 ^ 120 ⋆ e₀) (search read depth 40 fits 20000) refl
-
-  sum-fits : a + b ≤ L * m
-  sum-fits = from (L ∷ e ∷ m ∷ a ∷ b ∷ []) (hi ⊹ L ⋆ em ⊹ L * e * 2 ^ 60 ⋆ e₀) (search read depth 40 fits 20000) refl
-
   product-fits : (i w : ℕ) → i ≤ 256 → w ≤ a + b → i * L * w ≤ L * L * m
   product-fits i w h k = from (L ∷ e ∷ m ∷ a ∷ b ∷ i ∷ w ∷ []) (L * w ⋆ h ⊹ 256 * L ⋆ k ⊹ 256 * L ⋆ hi ⊹ L * L ⋆ em ⊹ L * L * e * 2 ^ 60 ⋆ e₀) (search read depth 40 fits 20000) refl
 
@@ -119,8 +113,11 @@ module _ (L e m a b : ℕ) (L₀ : 0 < L) (e₀ : 0 < e) (eL : e * e * 2 ^ 120 �
       (search read depth 40 fits 20000) refl
 
 module _ (y : Complex) (f : Fine y) (lo : unit ≤ size y * extent) (hi : size y ≤ unit * extent) where
+  spanned : Between span (size y)
+  spanned = between-more extent span (size y) extent-span (lo, hi)
+
   joint : Rounded (add binary64 (y .re) (y .im)) (size y) 1
-  joint = add-rounds (y .re) (y .im) _ _ (f .re) (f .im) (sum-fits unit extent most (unitsOf (y .re)) (unitsOf (y .im)) unit-pos extent-pos extent-unit extent-most lo hi)
+  joint = add-rounds (y .re) (y .im) _ _ (f .re) (f .im) (fits (size y) (inr spanned))
 
   small : sliver ≤ unit
   small = omega (arith, sliver-unit)
@@ -141,7 +138,7 @@ module _ (y : Complex) (f : Fine y) (lo : unit ≤ size y * extent) (hi : size y
         (both-fit unit extent most (unitsOf (y .re)) (unitsOf (y .im)) unit-pos extent-pos extent-unit extent-most lo hi i _ sliver _ _ (omega arith) small (joint .law) (times-i .law) (spare .law))
 
     enough : 2 ^ 60 ≤ unitsOf (y .re) + unitsOf (y .im)
-    enough = size-big unit extent most (unitsOf (y .re)) (unitsOf (y .im)) unit-pos extent-pos extent-unit extent-most lo hi
+    enough = least unit span most unit-pos span-pos span-unit span-most (size y) (spanned .0)
 
     sliver-pos : 0 < sliver
     sliver-pos = go sliver sliver-unit
@@ -176,7 +173,7 @@ inside y i e = go (ltb 230 i) refl
     go true h = absurd (true≢false (sym e ∙ past y i (ltb-true 230 i h)))
     go false h = ltb-false 230 i h
 
--- THE PLACE: i/100 ≤ R/X, and R/X < (i + 1.1)/100 below the table's end, for an admittance within a millionth of a millionth of P
+-- THE PLACE: i/100 ≤ R/X, and R/X < (i + 1.1)/100 below the table's end, for an admittance within 10⁶ parts in 2 ^ 53 of P
 pub place-index : (y : Complex) (k : ℕ) (P : Point) → Fine y → unit ≤ size y * extent → size y ≤ unit * extent → k ≤ 1000000 → Near parts k P (value y) → 0 < P .im → Index (P .re) (P .im) (placeOf y)
 unfolding placeOf
 place-index y k P f lo hi few near B₀ = go (climb-top (fitsAt y) 8 0 (past y 256 (lit< tt)))

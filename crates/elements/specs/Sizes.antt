@@ -1,15 +1,14 @@
 -- How large the factors can be. Assumes nothing.
-use Prim.Native.Nat.{ℕ, zero, suc, _+_, _*_, _≤_, _<_}
-use mathlib.Core.Path.{_≡_, refl}
-use mathlib.Core.Bool.{Bool, true, false}
+use Prim.Native.Nat.{ℕ, _+_, _*_, _≤_, _<_}
+use mathlib.Core.Path.{refl}
+use mathlib.Core.Bool.{Bool, true, false, cond}
 use mathlib.Core.List.{[], _∷_}
 use native.Mathlib.Omega.{arith}
-use native.Mathlib.Nat.{le-trans, mul-le-mul, mul-le-mul-right}
+use native.Mathlib.Nat.{mul-le-mul}
 use lib.Dec.{leb, eqb, lit≤}
-use Rattle.enclosure.specs.Point.{pick}
-use Rattle.algebra.specs.Reading.{from, read, _⊹_, _⋆_}
+use Rattle.algebra.specs.Reading.{from, read}
 use Rattle.enclosure.specs.Root.{root-le}
-use Rattle.elements.specs.Factors.{factorC, sineOf, sine-most, splitOf, split-fits, split-greatest, split-most}
+use Rattle.elements.specs.Factors.{factorC, sineOf, sine-most, splitOf, split-fits, split-most}
 
 -- R and X of an impedance of 10⁸ are at most 10⁸ each
 pub split-re-most : (ρ : ℕ) → splitOf ρ * ρ ≤ 100000000
@@ -21,18 +20,11 @@ split-re-most ρ = root-le (splitOf ρ * ρ) 100000000 (go (splitOf ρ) (split-f
 pub split-im-most : (ρ : ℕ) → splitOf ρ * 100 ≤ 100000000
 split-im-most ρ = omega (arith, split-most ρ)
 
--- f is above 0 wherever R/X is below 10⁸ hundredths
-pub split-some : (ρ : ℕ) → ρ ≤ 200 → 0 < splitOf ρ
-split-some ρ h = split-greatest ρ 1 (small ρ (mul-le-mul h h))
-  where
-    small : (ρ : ℕ) → ρ * ρ ≤ 200 * 200 → 1 * 1 * (10000 + ρ * ρ) ≤ 10000000000000000
-    small ρ h = omega arith
-
 pub factorC-sized : (tolerance volts : ℕ) → (100 < factorC tolerance volts) × (factorC tolerance volts ≤ 110)
 unfolding factorC
 factorC-sized tolerance volts = go (leb volts 1000) (eqb tolerance 6)
   where
-    go : (s t : Bool) → (100 < pick s (pick t 105 110) 110) × (pick s (pick t 105 110) 110 ≤ 110)
+    go : (s t : Bool) → (100 < cond s (cond t 105 110) 110) × (cond s (cond t 105 110) 110 ≤ 110)
     go true true = (lit≤ tt, lit≤ tt)
     go true false = (lit≤ tt, lit≤ tt)
     go false t = (lit≤ tt, lit≤ tt)

@@ -1,30 +1,29 @@
 -- Whole bounds of √(p/q)·|P|, by squares, from an f64 point near P: they hold the exact size, and they are narrow.
 -- Document 01: "a bound n is at most I exactly when 3·n²·(R² + X²) ≤ (c·Un)²". Assumes nothing.
-use Prim.Native.Nat.{ℕ, zero, suc, _+_, _-_, _*_, _^_, _≤_, _<_, zero-le}
-use mathlib.Core.Path.{_≡_, refl, sym, ap, _∙_, subst}
+use Prim.Native.Nat.{ℕ, _+_, _-_, _*_, _^_, _≤_, _<_}
+use mathlib.Core.Path.{_≡_, refl, sym, _∙_}
 use mathlib.Core.Bool.{Bool, true, false, _&&_, _||_, true≢false}
 use mathlib.Core.List.{[], _∷_}
 use mathlib.Core.Logic.{_⊎_, inl, inr, ⊎-elim}
 use native.Mathlib.Omega.{arith}
-use native.Mathlib.Nat.{le-refl, le-trans, le-of-lt, le-of-eq, mul-le-mul, mul-pos, lt-of-not-le, le-of-mul-le-mul-right}
-use lib.Pow.{pow-pos}
+use native.Mathlib.Nat.{le-refl, le-trans, le-of-lt, le-of-eq, le-dest, mul-add, mul-le-mul, mul-pos, lt-of-not-le, le-of-mul-le-mul-right}
 use lib.Dec.{T, lit<, lit≤, le→leb, ltb, eqb, ltb→lt, eqb→eq}
 use lib.Ieee.{Float, nan, inf, fin, up, down, binary64, mul, le}
 use lib.Ieee.Fits.{down-pos, and-l}
 use lib.Ieee.Order.{le-of-values, transfer}
-use Rattle.algebra.specs.Polynomial.{two-sq, le-or-le}
-use Rattle.algebra.specs.Reading.{poly, from, from-over, read, _⊹_, _⋆_}
-use Rattle.enclosure.specs.Close.{Close, Within, norm, size-low, size-high}
+use Rattle.algebra.specs.Polynomial.{le-or-le}
+use Rattle.algebra.specs.Reading.{from, from-over, read, _⊹_, _⋆_}
+use Rattle.enclosure.specs.Close.{Within, norm, size-low, size-high}
 use Rattle.enclosure.specs.Root.{below-of-squares}
 use Rattle.enclosure.specs.Point.{Point}
 use Rattle.enclosure.specs.Near.{Near, near-nothing}
 use Rattle.enclosure.specs.declared.Complex.{Complex}
 use Rattle.enclosure.specs.Rounding.{Rounds}
-use Rattle.enclosure.specs.Units.{unit, unit-pos, most, span, extent, extent-span, extent-unit, extent-most, extent-pos, Is, unitsOf, Rounded, mul-rounds, ratio-rounds, square-rounds, ofNat}
+use Rattle.enclosure.specs.Units.{unit, unit-pos, most, span, extent, Between, Sized, between-more, extent-span, extent-unit, extent-most, extent-pos, Is, unitsOf, Rounded, mul-rounds, ratio-rounds, square-rounds}
 use Rattle.enclosure.specs.Steps.{parts}
 use Rattle.enclosure.specs.Doubles.{square, squared, ratio, empty, rootBelow, sizeBelow, lowerOf, upperOf}
 use Rattle.enclosure.specs.Climb.{Top, climb-top}
-use Rattle.enclosure.specs.Fair.{value, size, Fine, near-square, sq, fair-empty}
+use Rattle.enclosure.specs.Fair.{value, size, Fine, norm-large, near-square, sq, some-size, fair-empty, ratio-most, ratio-large}
 use borrow.Author.Tests.{eqb-true, eq-eqb, ne-eqb}
 
 -- ---- the order of f64 is that of the whole numbers
@@ -52,13 +51,6 @@ le-units (fin false m e) (fin false n d) w v h k t =
 pub nle-units : (x y : Float) (w v : ℕ) → Is x w → Is y v → le x y ≡ false → v < w
 nle-units x y w v h k e = lt-of-not-le (λ (l : w ≤ v). rw e at (le-of-values x y w unit v unit unit-pos unit-pos h k (mul-le-mul l (le-refl unit))))
 
-pub le-false : (x y : Float) (w v : ℕ) → Is x w → Is y v → v < w → le x y ≡ false
-le-false x y w v h k l = go (le x y) refl
-  where
-    go : (b : Bool) → le x y ≡ b → b ≡ false
-    go true e = absurd (omega (arith, le-units x y w v h k e))
-    go false e = refl
-
 -- ---- one test of a root, over plain numbers: L smallest make 1; N is |z|², n its f64, T that of p/q, m that of p/q·|z|², g that of r²
 module _ (r L g m n T N p q : ℕ) (hg : Rounds g (r * r * L) 1) (hm : Rounds m (n * T) L) (ht : Rounds T (p * L) q) (hn : Within parts 3 0 N (n * L))
     (big : parts * (L * q) ≤ p * N) (fine : parts * q ≤ p * L) where
@@ -85,29 +77,15 @@ module _ (r L g m n T N p q : ℕ) (hg : Rounds g (r * r * L) 1) (hm : Rounds m 
       ⊹ 18014398509481984 * 18014398509481984 ⋆ big) (search read depth 40 fits 20000) refl
 
 -- ---- sizes over plain numbers: e is the extent
-module _ (A B L e : ℕ) (L₀ : 0 < L) (e₀ : 0 < e) (eL : e * e * 2 ^ 120 ≤ L) (lo : L ≤ (A + B) * e) (hi : A + B ≤ L * e) where
-  norm-large : 2 ^ 119 * L ≤ norm A B
-  norm-large = from-over (A ∷ B ∷ L ∷ e ∷ []) (2 * (e * e)) (mul-pos (omega arith) (mul-pos e₀ e₀)) (mul-le-mul lo lo ⊹ e * e ⋆ two-sq A B ⊹ L ⋆ eL) (search read depth 40 fits 20000) refl
-
-  norm-most : norm A B ≤ L * L * (e * e)
-  norm-most = from (A ∷ B ∷ L ∷ e ∷ []) (mul-le-mul hi hi) (search read depth 40 fits 20000) refl
+norm-most : (A B L e : ℕ) → A + B ≤ L * e → norm A B ≤ L * L * (e * e)
+norm-most A B L e hi = from (A ∷ B ∷ L ∷ e ∷ []) (mul-le-mul hi hi) (search read depth 40 fits 20000) refl
 
 scaled-large : (p q L N : ℕ) → 0 < p → q ≤ 2 ^ 46 → 2 ^ 119 * L ≤ N → parts * (L * q) ≤ p * N
 scaled-large p q L N z h k = from (p ∷ q ∷ L ∷ N ∷ []) (parts * L ⋆ h ⊹ k ⊹ N ⋆ z) (search read depth 40 fits 20000) refl
 
-unit-large : (p q L e : ℕ) → 0 < p → 0 < e → q ≤ 2 ^ 46 → e * e * 2 ^ 120 ≤ L → parts * q ≤ p * L
-unit-large p q L e z e₀ h k = from (p ∷ q ∷ L ∷ e ∷ []) (parts ⋆ h ⊹ k ⊹ 2 ^ 120 ⋆ mul-pos e₀ e₀ ⊹ L ⋆ z) (search read depth 40 fits 20000) refl
-
-ratio-most : (p q L T : ℕ) → 0 < q → 0 < L → p ≤ 2 ^ 48 → q ≤ 2 ^ 46 → Rounds T (p * L) q → T ≤ 2 ^ 50 * L
-ratio-most p q L T z l hp hq h =
-    from-over (p ∷ q ∷ L ∷ T ∷ []) 18014398509481984 (omega arith) (h .0 ⊹ 18014398509481984 * T ⋆ z ⊹ 18014398509481986 * L ⋆ hp ⊹ 9007199254740992 ⋆ hq ⊹ 9007199254740992 * 2 ^ 46 ⋆ l) (search read depth 40 fits 20000) refl
-
-product-fits : (n T N L e m : ℕ) → 0 < L → parts * (n * L) ≤ parts * N + 3 * N + 0 → N ≤ L * L * (e * e) → T ≤ 2 ^ 50 * L → e * e * 2 ^ 60 ≤ m → n * T ≤ L * L * m
+product-fits : (n T N L e m : ℕ) → 0 < L → parts * (n * L) ≤ parts * N + 3 * N + 0 → N ≤ L * L * (e * e) → T ≤ 2 * 2 ^ 48 * L → e * e * 2 ^ 60 ≤ m → n * T ≤ L * L * m
 product-fits n T N L e m z hn hN hT k =
-    from-over (n ∷ T ∷ N ∷ L ∷ e ∷ m ∷ []) parts (omega arith) (parts * n ⋆ hT ⊹ 2 ^ 50 ⋆ hn ⊹ 2 ^ 50 * 9007199254740995 ⋆ hN ⊹ parts * (L * L) ⋆ k) (search read depth 40 fits 20000) refl
-
-ratio-room : (p q e m : ℕ) → 0 < q → 0 < e → p ≤ 2 ^ 48 → e * e * 2 ^ 60 ≤ m → p ≤ q * m
-ratio-room p q e m z e₀ h k = from (p ∷ q ∷ e ∷ m ∷ []) (h ⊹ k ⊹ 2 ^ 60 ⋆ mul-pos e₀ e₀ ⊹ m ⋆ z) (search read depth 40 fits 20000) refl
+    from-over (n ∷ T ∷ N ∷ L ∷ e ∷ m ∷ []) parts (omega arith) (parts * n ⋆ hT ⊹ 2 ^ 49 ⋆ hn ⊹ 2 ^ 49 * 9007199254740995 ⋆ hN ⊹ parts * (L * L) ⋆ k) (search read depth 40 fits 20000) refl
 
 -- the square of 2 ^ 53 is too large
 no-more : (p q L N c : ℕ) → 0 < q → 0 < L → c ≤ 1073741825 → p * N ≤ q * (2 ^ 105 * (L * L)) → parts * (q * 1073741824 * (2 ^ 53 * 2 ^ 53 * (L * L))) ≤ parts * (p * c * N) + 8 * (p * c * N) → ⊥
@@ -160,32 +138,26 @@ pub record Enclosed (p q : ℕ) (P : Point) (lower upper : ℕ) : Type 0 where
   pub narrow : 536870912 * upper ≤ 536870912 * (lower + 2) + (lower + 1)
   pub small : upper < 2 ^ 53
 
--- nothing, or a size that has whole bounds
-abbrev pub Extent : ℕ → Type 0
-Extent s = (s ≡ 0) ⊎ ((unit ≤ s * extent) × (s ≤ unit * extent))
+-- that is narrower than 2 A and a w-th of the upper bound, for every w up to 2 ^ 29: a thousand and a million are among them
+pub width : (w lower upper : ℕ) → w ≤ 536870912 → 536870912 * upper ≤ 536870912 * (lower + 2) + (lower + 1) → w * upper ≤ w * (lower + 2) + upper
+width w lower upper l h = ⊎-elim (λ (k : upper ≤ lower + 2). le-trans (mul-le-mul (le-refl w) k) (omega arith)) (λ (k : lower + 2 ≤ upper). go (le-dest k .0) (le-dest k .1)) (le-or-le upper (lower + 2))
+  where
+    go : (d : ℕ) → lower + 2 + d ≡ upper → w * upper ≤ w * (lower + 2) + upper
+    go d e = let m : w * d ≤ 536870912 * d = mul-le-mul l (le-refl d) in rw (← e) (omega (arith, rw (← e) at h, mul-add w (lower + 2) d))
 
-wider : (s u e f : ℕ) → e ≤ f → u ≤ s * e → u ≤ s * f
-wider s u e f h k = from (s ∷ u ∷ e ∷ f ∷ []) (k ⊹ s ⋆ h) (search read depth 40 fits 20000) refl
-
-margins : (k : ℕ) → k ≤ 1000000 → 2 * (k * k) * (4294967297 * 4294967297) ≤ parts * parts
-margins k l = from (k ∷ []) (2 * (4294967297 * 4294967297) ⋆ mul-le-mul l l) (search read depth 40 fits 20000) refl
-
-margins′ : (k : ℕ) → k ≤ 1000000 → 2 * (k * k) * (4294967296 * 4294967296) ≤ parts * parts
-margins′ k l = from (k ∷ []) (2 * (4294967296 * 4294967296) ⋆ mul-le-mul l l) (search read depth 40 fits 20000) refl
+margins : (k n : ℕ) → k ≤ 1000000 → n ≤ 4294967297 → 2 * (k * k) * (n * n) ≤ parts * parts
+margins k n l h = from (k ∷ n ∷ []) (2 * (n * n) ⋆ mul-le-mul l l ⊹ 2000000000000 ⋆ mul-le-mul h h) (search read depth 40 fits 20000) refl
 
 module _ (z : Complex) (f : Fine z) (lo : unit ≤ size z * extent) (hi : size z ≤ unit * extent) (k : ℕ) (P : Point) (few : k ≤ 1000000) (h : Near parts k P (value z))
     (p q : ℕ) (p₀ : 0 < p) (q₀ : 0 < q) (p₁ : p < 65536) (q₁ : q < 65536) (room : p * norm (P .re) (P .im) ≤ q * (2 ^ 104 * (P .den * P .den))) where
-  lo′ : unit ≤ size z * span
-  lo′ = wider (size z) unit extent span extent-span lo
-
-  hi′ : size z ≤ unit * span
-  hi′ = wider unit (size z) extent span extent-span hi
+  spanned : Between span (size z)
+  spanned = between-more extent span (size z) extent-span (lo, hi)
 
   near-low : 4294967296 * 4294967296 * norm (unitsOf (z .re) * P .den) (unitsOf (z .im) * P .den) ≤ 4294967297 * 4294967297 * norm (P .re * unit) (P .im * unit)
-  near-low = size-low parts k 4294967296 _ _ _ _ (lit< tt) (margins′ k few) (h .close)
+  near-low = size-low parts k 4294967296 _ _ _ _ (lit< tt) (margins k 4294967296 few (lit≤ tt)) (h .close)
 
   near-high : 4294967296 * 4294967296 * norm (P .re * unit) (P .im * unit) ≤ 4294967297 * 4294967297 * norm (unitsOf (z .re) * P .den) (unitsOf (z .im) * P .den)
-  near-high = size-high parts k 4294967296 _ _ _ _ (lit< tt) (margins k few) (h .close)
+  near-high = size-high parts k 4294967296 _ _ _ _ (lit< tt) (margins k 4294967297 few (lit≤ tt)) (h .close)
 
   module _ (c : ℕ) (c₀ : 0 < c) (c₁ : c ≤ 1073741825) where
     pc : p * c ≤ 2 ^ 48
@@ -195,26 +167,26 @@ module _ (z : Complex) (f : Fine z) (lo : unit ≤ size z * extent) (hi : size z
     tq = omega arith
 
     by : Rounded (ratio (p * c) (q * 1073741824)) (p * c * unit) (q * 1073741824)
-    by = ratio-rounds (p * c) (q * 1073741824) (le-trans pc (lit≤ tt)) (le-trans tq (lit≤ tt)) (omega arith) (ratio-room (p * c) (q * 1073741824) extent most (omega arith) extent-pos pc extent-most)
+    by = ratio-rounds (p * c) (q * 1073741824) (le-trans pc (lit≤ tt)) (le-trans tq (lit≤ tt)) (omega arith)
 
     sized : Within parts 3 0 (norm (unitsOf (z .re)) (unitsOf (z .im))) (unitsOf (square z) * unit)
-    sized = near-square z f lo′ hi′
+    sized = near-square z f (spanned .0) (spanned .1)
 
     part : Rounded (mul binary64 (square z) (ratio (p * c) (q * 1073741824))) (unitsOf (square z) * unitsOf (ratio (p * c) (q * 1073741824))) unit
     part =
-        mul-rounds (square z) (ratio (p * c) (q * 1073741824)) _ _ (sq z f lo′ hi′ .is) (by .is)
+        mul-rounds (square z) (ratio (p * c) (q * 1073741824)) _ _ (sq z f (spanned .0) (spanned .1) .is) (by .is)
         (product-fits (unitsOf (square z)) (unitsOf (ratio (p * c) (q * 1073741824))) (norm (unitsOf (z .re)) (unitsOf (z .im))) unit extent most unit-pos (sized .0)
-        (norm-most (unitsOf (z .re)) (unitsOf (z .im)) unit extent unit-pos extent-pos extent-unit lo hi)
-        (ratio-most (p * c) (q * 1073741824) unit _ (omega arith) unit-pos pc tq (by .law)) extent-most)
+        (norm-most (unitsOf (z .re)) (unitsOf (z .im)) unit extent hi)
+        (ratio-most (2 ^ 48) (p * c) (q * 1073741824) unit _ (omega arith) unit-pos pc (le-trans tq (lit≤ tt)) (by .law)) extent-most)
 
     some : 0 < p * c
     some = mul-pos p₀ c₀
 
     big : parts * (unit * (q * 1073741824)) ≤ p * c * norm (unitsOf (z .re)) (unitsOf (z .im))
-    big = scaled-large (p * c) (q * 1073741824) unit _ some tq (norm-large (unitsOf (z .re)) (unitsOf (z .im)) unit extent unit-pos extent-pos extent-unit lo hi)
+    big = scaled-large (p * c) (q * 1073741824) unit _ some tq (norm-large (unitsOf (z .re)) (unitsOf (z .im)) unit extent (2 ^ 120) (2 ^ 119) extent-pos (lit≤ tt) extent-unit lo)
 
     small : parts * (q * 1073741824) ≤ p * c * unit
-    small = unit-large (p * c) (q * 1073741824) unit extent some extent-pos tq extent-unit
+    small = ratio-large (p * c) (q * 1073741824) some tq
 
     passed : (r : ℕ) → r ≤ 2 ^ 53 → le (squared r) (mul binary64 (square z) (ratio (p * c) (q * 1073741824))) ≡ true
         → parts * (q * 1073741824 * (r * r * (unit * unit))) ≤ parts * (p * c * norm (unitsOf (z .re)) (unitsOf (z .im))) + 8 * (p * c * norm (unitsOf (z .re)) (unitsOf (z .im)))
@@ -243,11 +215,7 @@ module _ (z : Complex) (f : Fine z) (lo : unit ≤ size z * extent) (hi : size z
     above-root-of = failed (sizeBelow c p q z + 1) (omega (arith, top .most)) (top .fails)
 
   filled : empty z ≡ false
-  filled = fair-empty z f (inr (lo′, hi′)) ∙ ne-eqb (size z) 0 (λ e. none (size z) unit extent unit-pos lo e)
-    where
-      none : (s u e : ℕ) → 0 < u → u ≤ s * e → s ≡ 0 → ⊥
-      none zero u e z h q = omega arith
-      none (suc s) u e z h q = omega arith
+  filled = fair-empty z f (inr spanned) ∙ ne-eqb (size z) 0 (λ e. omega (arith, some-size (size z) unit extent unit-pos lo))
 
   encloses-some : Enclosed p q P (lowerOf p q z) (upperOf p q z)
   unfolding lowerOf upperOf
@@ -293,8 +261,8 @@ encloses-none p q z P t e = rw t (record {
     im : P .im ≡ 0
     im = omega arith
 
--- THE ENCLOSURE: whole bounds of √(p/q)·|P| from an f64 point within a millionth of a millionth, for every size in range
-pub encloses : (z : Complex) (k : ℕ) (P : Point) (p q : ℕ) → Fine z → Extent (size z) → k ≤ 1000000 → Near parts k P (value z) → 0 < p → 0 < q → p < 65536 → q < 65536
+-- THE ENCLOSURE: whole bounds of √(p/q)·|P| from an f64 point within 10⁶ parts in 2 ^ 53, for every size in range
+pub encloses : (z : Complex) (k : ℕ) (P : Point) (p q : ℕ) → Fine z → Sized extent (size z) → k ≤ 1000000 → Near parts k P (value z) → 0 < p → 0 < q → p < 65536 → q < 65536
     → p * norm (P .re) (P .im) ≤ q * (2 ^ 104 * (P .den * P .den)) → Enclosed p q P (lowerOf p q z) (upperOf p q z)
 encloses z k P p q f (inl e) few h p₀ q₀ p₁ q₁ room = encloses-none p q z P (fair-empty z f (inl e) ∙ eq-eqb (size z) 0 e) (eqb-true (P .re + P .im) 0 (near-nothing parts k P (value z) (omega arith) (omega arith) h ∙ eq-eqb (size z) 0 e))
 encloses z k P p q f (inr x) few h p₀ q₀ p₁ q₁ room = encloses-some z f (x .0) (x .1) k P few h p q p₀ q₀ p₁ q₁ room

@@ -1,11 +1,8 @@
 -- What a chain of branches costs: at each level a source joins, the sum is inverted, a branch impedance is added, the result is
 -- referred by a ratio twice and inverted back. Assumes nothing.
-use Prim.Native.Nat.{ℕ, zero, suc, _+_, _*_, _^_, _≤_, _<_}
+use Prim.Native.Nat.{ℕ, zero, suc, _+_, _*_, _≤_}
 use native.Mathlib.Omega.{arith}
-use mathlib.Core.Path.{_≡_}
-use mathlib.Core.Logic.{⊎-elim}
-use native.Mathlib.Nat.{mul-suc, mul-add, mul-le-mul, le-refl, le-trans, le-dest}
-use Rattle.algebra.specs.Polynomial.{le-or-le}
+use native.Mathlib.Nat.{mul-suc}
 use Rattle.enclosure.specs.Point.{Ops}
 use Rattle.enclosure.specs.Near.{Rules}
 
@@ -17,9 +14,9 @@ abbrev pub chain : {A : Type 0} → Ops A → (s z : ℕ → A) → (p q : ℕ �
 chain o s z p q zero = s 0
 chain o s z p q (suc n) = level o (s (suc n)) (z n) (p n) (q n) (chain o s z p q n)
 
-module _ {A B : Type 0} (o : Ops A) (o′ : Ops B) (R : ℕ → A → B → Type 0) (Volts : ℕ → Type 0) (limit a v c : ℕ) (rules : Rules o o′ R Volts limit a v c)
+module _ {A B : Type 0} (o : Ops A) (o′ : Ops B) (R : ℕ → A → B → Type 0) (Factor : ℕ → Type 0) (limit a v c : ℕ) (rules : Rules o o′ R Factor limit a v c)
     (s z : ℕ → A) (s′ z′ : ℕ → B) (p q : ℕ → ℕ) (k : ℕ)
-    (near-s : (i : ℕ) → R k (s i) (s′ i)) (near-z : (i : ℕ) → R k (z i) (z′ i)) (volts : (i : ℕ) → Volts (p i) × Volts (q i)) where
+    (near-s : (i : ℕ) → R k (s i) (s′ i)) (near-z : (i : ℕ) → R k (z i) (z′ i)) (volts : (i : ℕ) → Factor (p i) × Factor (q i)) where
   -- A LEVEL COSTS two sums, two inversions and two scalings, however many lie before it
   pub chain-near : (n : ℕ) → k + (a + v + a + c + c + v) * n ≤ limit → R (k + (a + v + a + c + c + v) * n) (chain o s z p q n) (chain o′ s′ z′ p q n)
   chain-near zero l = rules .more k _ _ _ (omega arith) (near-s 0)
@@ -35,14 +32,8 @@ module _ {A B : Type 0} (o : Ops A) (o′ : Ops B) (R : ℕ → A → B → Type
       (rules .near-inverse (j + a) _ _ (omega arith)
       (rules .near-add j _ _ _ _ (omega arith) (chain-near n (omega arith)) (rules .more k _ _ _ (omega arith) (near-s (suc n)))))))))
 
--- IN F64, with 4 parts in 2 ^ 53 for a sum, 13 for an inverse and 8 for a scaling, 37 levels of elements within 1,000 parts come to
--- 2,850 parts: far less than the 1,000,000 up to which Amperes proves a width of 2 and one part in 2 ^ 29 of the current
+-- AN EXAMPLE of what a level costs; nothing rests on it. In f64, with 4 parts in 2 ^ 53 for a sum, 13 for an inverse and 8 for a scaling,
+-- 37 levels of elements within 1,000 parts come to 2,850 parts. Demand 3 rests on the walk over the tree, `units` in the network's
+-- Claim, which comes to 12,243 parts for 64 buses. Amperes proves the width for up to 1,000,000 parts
 pub thirty-seven : 1000 + (4 + 13 + 4 + 8 + 8 + 13) * 37 ≤ 1000000
 thirty-seven = omega arith
-
--- and that width is narrower than 2 A and a w-th of the upper bound for every w up to 2 ^ 29, a thousand and a million among them
-pub width : (w lower upper : ℕ) → w ≤ 536870912 → 536870912 * upper ≤ 536870912 * (lower + 2) + (lower + 1) → w * upper ≤ w * (lower + 2) + upper
-width w lower upper l h = ⊎-elim (λ (k : upper ≤ lower + 2). le-trans (mul-le-mul (le-refl w) k) (omega arith)) (λ (k : lower + 2 ≤ upper). go (le-dest k .0) (le-dest k .1)) (le-or-le upper (lower + 2))
-  where
-    go : (d : ℕ) → lower + 2 + d ≡ upper → w * upper ≤ w * (lower + 2) + upper
-    go d e = let m : w * d ≤ 536870912 * d = mul-le-mul l (le-refl d) in rw (← e) (omega (arith, rw (← e) at h, mul-add w (lower + 2) d))

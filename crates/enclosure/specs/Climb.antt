@@ -2,12 +2,11 @@
 -- Assumes nothing.
 use Prim.Native.Nat.{ℕ, zero, suc, _+_, _-_, _*_, _/_, _^_, _≤_, _<_}
 use mathlib.Core.Path.{_≡_, refl, sym, ap, _∙_}
-use mathlib.Core.Bool.{Bool, true, false}
+use mathlib.Core.Bool.{Bool, true, false, cond}
 use mathlib.Core.Logic.{_⊎_, inl, inr}
 use native.Mathlib.Omega.{arith}
-use native.Mathlib.Nat.{pow-suc, mul-div-cancel, add-assoc, mul-comm}
+use native.Mathlib.Nat.{pow-suc, mul-div-cancel, add-assoc}
 use lib.Pow.{pow-pos}
-use Rattle.enclosure.specs.Point.{pick}
 use lib.Ieee.{Float, le}
 use Rattle.enclosure.specs.Doubles.{climb, squared, rootBelow, sizeBelow}
 use Rattle.enclosure.specs.declared.Complex.{Complex}
@@ -46,7 +45,7 @@ climb-top test (suc k) low h = go (test (low + 2 ^ k)) refl (climb-top test k (l
     go : (b : Bool) → test (low + 2 ^ k) ≡ b
         → (test (low + 2 ^ k + 2 ^ k) ≡ false → Top test (low + 2 ^ k) (low + 2 ^ k + 2 ^ k) (climb test k (low + 2 ^ k)))
         → (test (low + 2 ^ k) ≡ false → Top test low (low + 2 ^ k) (climb test k low))
-        → Top test low (low + 2 ^ suc k) (climb test k (pick b (low + 2 ^ k) low))
+        → Top test low (low + 2 ^ suc k) (climb test k (cond b (low + 2 ^ k) low))
     go true t u v = higher test low (2 ^ k) (low + 2 ^ suc k) _ t (above low k) (u (rw (← (above low k)) h))
     go false t u v = lower test low (2 ^ k) (low + 2 ^ suc k) _ (above low k) (v t)
 
@@ -56,7 +55,7 @@ unfolding climb
 climb-small test zero low = omega arith
 climb-small test (suc k) low = go (test (low + 2 ^ k)) (climb-small test k (low + 2 ^ k)) (climb-small test k low)
   where
-    go : (b : Bool) → climb test k (low + 2 ^ k) < low + 2 ^ k + 2 ^ k → climb test k low < low + 2 ^ k → climb test k (pick b (low + 2 ^ k) low) < low + 2 ^ suc k
+    go : (b : Bool) → climb test k (low + 2 ^ k) < low + 2 ^ k + 2 ^ k → climb test k low < low + 2 ^ k → climb test k (cond b (low + 2 ^ k) low) < low + 2 ^ suc k
     go true u v = rw (above low k) u
     go false u v = rw (above low k) (omega arith)
 
@@ -65,7 +64,7 @@ pub halved : (k : ℕ) → 0 < k → 2 ^ k / 2 ≡ 2 ^ (k - 1)
 halved zero h = absurd (omega arith)
 halved (suc k) h = let e : suc k - 1 ≡ k = omega arith in rw (e, pow-suc 2 k) (mul-div-cancel (2 ^ k) (pow-pos 1))
 
-pub climb-more : (test : ℕ → Bool) (k low : ℕ) → 0 < k → climb test k low ≡ climb test (k - 1) (pick (test (low + 2 ^ (k - 1))) (low + 2 ^ (k - 1)) low)
+pub climb-more : (test : ℕ → Bool) (k low : ℕ) → 0 < k → climb test k low ≡ climb test (k - 1) (cond (test (low + 2 ^ (k - 1))) (low + 2 ^ (k - 1)) low)
 unfolding climb
 climb-more test zero low h = absurd (omega arith)
 climb-more test (suc k) low h = let e : suc k - 1 ≡ k = omega arith in rw e

@@ -1,6 +1,6 @@
 -- Closeness of two points to k parts in M of the first one's size, and what each operation costs. Every rule holds for all sizes.
 -- Assumes nothing.
-use Prim.Native.Nat.{ℕ, zero, suc, _+_, _*_, _≤_, _<_}
+use Prim.Native.Nat.{ℕ, _+_, _*_, _≤_, _<_}
 use mathlib.Core.Path.{_≡_, refl}
 use mathlib.Core.List.{[], _∷_}
 use mathlib.Core.Logic.{⊎-elim}
@@ -9,7 +9,7 @@ use native.Mathlib.Nat.{mul-le-mul, mul-pos, le-dest}
 use Rattle.algebra.specs.Polynomial.{two-sq, le-or-le}
 use Rattle.algebra.specs.Reading.{from, from-over, read, _⊹_, _⋆_}
 use Rattle.enclosure.specs.Root.{root-le}
-use Rattle.enclosure.specs.Distance.{Near, minkowski}
+use Rattle.enclosure.specs.Distance.{Disc, minkowski}
 
 abbrev pub norm : ℕ → ℕ → ℕ
 norm a b = a * a + b * b
@@ -29,15 +29,15 @@ close-unscale M k c A B a b z h = from-over (M ∷ k ∷ c ∷ A ∷ B ∷ a ∷
 pub close-more : (M k j A B a b : ℕ) → k ≤ j → Close M k A B a b → Close M j A B a b
 close-more M k j A B a b l h = from (M ∷ k ∷ j ∷ A ∷ B ∷ a ∷ b ∷ []) (h ⊹ (A + B) * (A + B) ⋆ mul-le-mul l l) (search read depth 40 fits 20000) refl
 
-close→near : (M k A B a b : ℕ) → Close M k A B a b → Near (M * A) (M * B) (M * a) (M * b) (k * (A + B) * (k * (A + B)))
-close→near M k A B a b h = from (M ∷ k ∷ A ∷ B ∷ a ∷ b ∷ []) h (search read depth 40 fits 20000) refl
+close→disc : (M k A B a b : ℕ) → Close M k A B a b → Disc (M * A) (M * B) (M * a) (M * b) (k * (A + B) * (k * (A + B)))
+close→disc M k A B a b h = from (M ∷ k ∷ A ∷ B ∷ a ∷ b ∷ []) h (search read depth 40 fits 20000) refl
 
 -- SUM costs nothing: distances and sizes both add up
 pub close-sum : (M k A1 B1 a1 b1 A2 B2 a2 b2 : ℕ) → Close M k A1 B1 a1 b1 → Close M k A2 B2 a2 b2 → Close M k (A1 + A2) (B1 + B2) (a1 + a2) (b1 + b2)
 close-sum M k A1 B1 a1 b1 A2 B2 a2 b2 h g =
     from (M ∷ k ∷ A1 ∷ B1 ∷ a1 ∷ b1 ∷ A2 ∷ B2 ∷ a2 ∷ b2 ∷ [])
     (minkowski (M * A1) (M * B1) (M * a1) (M * b1) (M * A2) (M * B2) (M * a2) (M * b2) (k * (A1 + B1)) (k * (A2 + B2))
-    (close→near M k A1 B1 a1 b1 h) (close→near M k A2 B2 a2 b2 g))
+    (close→disc M k A1 B1 a1 b1 h) (close→disc M k A2 B2 a2 b2 g))
     (search read depth 40 fits 20000) refl
 
 -- the second point is not much nearer to 0 than the first: k·|z| ≤ (k + s)·|w|
@@ -71,8 +71,8 @@ pub close-trans : (M k s A B a b a′ b′ : ℕ) → 0 < M → 4 * k ≤ M → 
 close-trans M k s A B a b a′ b′ z l h g =
     from (M ∷ k ∷ s ∷ A ∷ B ∷ a ∷ b ∷ a′ ∷ b′ ∷ [])
     (minkowski (M * A) (M * B) (M * a) (M * b) (M * a) (M * b) (M * a′) (M * b′) (k * (A + B)) (2 * (s * (A + B)))
-    (close→near M k A B a b h)
-    (from (M ∷ s ∷ A ∷ B ∷ a ∷ b ∷ a′ ∷ b′ ∷ []) (close→near M s a b a′ b′ g ⊹ short s (A + B) (a + b) (sum-most M k A B a b (mul-pos z z) l h)) (search read depth 40 fits 20000) refl))
+    (close→disc M k A B a b h)
+    (from (M ∷ s ∷ A ∷ B ∷ a ∷ b ∷ a′ ∷ b′ ∷ []) (close→disc M s a b a′ b′ g ⊹ short s (A + B) (a + b) (sum-most M k A B a b (mul-pos z z) l h)) (search read depth 40 fits 20000) refl))
     (search read depth 40 fits 20000) refl
 
 -- ---- rounding: a is A to k parts in M, and h besides

@@ -1,28 +1,27 @@
 -- Each operation of f64 is near the exact one on the same numbers: within 2, 6 and 4 parts in 2 ^ 53 of the size re + im.
 -- Assumes nothing.
 use Prim.Native.Nat.{ℕ, zero, suc, _+_, _*_, _^_, _≤_, _<_}
-use mathlib.Core.Path.{_≡_, refl, sym, ap, ap₂, _∙_, subst}
+use mathlib.Core.Path.{_≡_, refl, sym, ap₂, _∙_}
 use mathlib.Core.Bool.{Bool, true, false, _&&_, true≢false}
 use mathlib.Core.List.{[], _∷_}
-use mathlib.Core.Logic.{_⊎_, inl, inr, ⊎-elim}
+use mathlib.Core.Logic.{_⊎_, inl, inr}
 use native.Mathlib.Omega.{arith}
-use native.Mathlib.Nat.{le-refl, le-trans, le-of-eq, le-of-lt, mul-le-mul, mul-le-mul-right, mul-pos, mul-one, mul-comm}
+use native.Mathlib.Nat.{le-trans, mul-le-mul, mul-pos}
 use lib.Pow.{pow-pos}
-use lib.Dec.{T, eqb, lit≤}
-use borrow.Author.Tests.{eqb-true, eqb-false, eq-eqb, ne-eqb}
+use lib.Dec.{eqb, lit≤}
+use borrow.Author.Tests.{eq-eqb, ne-eqb}
 use lib.Ieee.{Float, nan, inf, fin, binary64, ofBits, add, mul, div, eq, up, down}
-use lib.Ieee.Exact.{HasValue}
 use lib.Ieee.Fits.{down-pos}
 use Rattle.algebra.specs.Polynomial.{two-sq}
-use Rattle.algebra.specs.Reading.{poly, from, from-over, read, _⊹_, _⋆_}
+use Rattle.algebra.specs.Reading.{from, from-over, read, _⊹_, _⋆_}
 use Rattle.enclosure.specs.Close.{Close, norm, Within, close-round}
-use Rattle.enclosure.specs.Point.{pick, Point, Ops, nothing, isNothing, sum, times, turned, inverse}
+use Rattle.enclosure.specs.Point.{Point, isNothing, sum, times, turned, inverse}
 use Rattle.enclosure.specs.Near.{Near}
 use Rattle.enclosure.specs.declared.Complex.{Complex}
 use Rattle.enclosure.specs.Rounding.{Rounds}
-use Rattle.enclosure.specs.Units.{unit, most, span, unit-pos, span-pos, span-unit, span-most, span-ratio, span-large, Is, unitsOf, units-is, Rounded, add-rounds, mul-rounds, div-rounds, ratio-rounds, ofNat}
+use Rattle.enclosure.specs.Units.{unit, most, span, Sized, unit-pos, unit-large, span-pos, span-unit, span-most, span-ratio, span-large, Is, unitsOf, Rounded, add-rounds, mul-rounds, div-rounds, ratio-rounds}
 use Rattle.enclosure.specs.Steps.{parts, sum-step, square-step, inverse-step, scale-step}
-use Rattle.enclosure.specs.Doubles.{nought, none, added, empty, square, inverted, ratio, scaled}
+use Rattle.enclosure.specs.Doubles.{nought, added, empty, square, inverted, ratio, scaled}
 
 -- ---- what an f64 point stands for
 abbrev pub value : Complex → Point
@@ -36,11 +35,11 @@ pub record Fine (z : Complex) : Type 0 where
   pub re : Is (z .re) (unitsOf (z .re))
   pub im : Is (z .im) (unitsOf (z .im))
 
--- s of the smallest is 0, or from 2 ^ -500 to 2 ^ 500
-abbrev pub Sized : ℕ → Type 0
-Sized s = (s ≡ 0) ⊎ ((unit ≤ s * span) × (s ≤ unit * span))
+-- ---- the sizes, over plain numbers: L smallest make 1, e is the span or the extent, m the most
+pub norm-large : (A B L e s t : ℕ) → 0 < e → 2 * t ≤ s → e * e * s ≤ L → L ≤ (A + B) * e → t * L ≤ norm A B
+norm-large A B L e s t e₀ l eL lo =
+    from-over (A ∷ B ∷ L ∷ e ∷ s ∷ t ∷ []) (2 * (e * e)) (mul-pos (omega arith) (mul-pos e₀ e₀)) (e * e * L ⋆ l ⊹ L ⋆ eL ⊹ mul-le-mul lo lo ⊹ e * e ⋆ two-sq A B) (search read depth 40 fits 20000) refl
 
--- ---- the sizes, over plain numbers: L smallest make 1, e is the span, m the most
 module _ (L e m : ℕ) (L₀ : 0 < L) (e₀ : 0 < e) (eL : e * e * 2 ^ 64 ≤ L) (em : e * e * 2 ^ 20 ≤ m) where
   pub least : (s : ℕ) → L ≤ s * e → 2 ^ 60 ≤ s
   least s k = from-over (s ∷ L ∷ e ∷ []) e e₀ (k ⊹ eL ⊹ 2 ^ 64 * e ⋆ e₀) (search read depth 40 fits 20000) refl
@@ -49,9 +48,6 @@ module _ (L e m : ℕ) (L₀ : 0 < L) (e₀ : 0 < e) (eL : e * e * 2 ^ 64 ≤ L)
   fits-sum s h = from (s ∷ L ∷ m ∷ e ∷ []) (h ⊹ L ⋆ em ⊹ L * e * 2 ^ 20 ⋆ e₀) (search read depth 40 fits 20000) refl
 
   module _ (A B : ℕ) (lo : L ≤ (A + B) * e) (hi : A + B ≤ L * e) where
-    pub large : 2 ^ 60 * L ≤ norm A B
-    large = from-over (A ∷ B ∷ L ∷ e ∷ []) (2 * (e * e)) (mul-pos (omega arith) (mul-pos e₀ e₀)) (mul-le-mul lo lo ⊹ e * e ⋆ two-sq A B ⊹ L ⋆ eL) (search read depth 40 fits 20000) refl
-
     pub fits-square : (a : ℕ) → a ≤ A + B → a * a ≤ L * L * m
     fits-square a h = from (a ∷ L ∷ e ∷ m ∷ []) (mul-le-mul h′ h′ ⊹ L * L ⋆ em) (search read depth 40 fits 20000) refl
       where
@@ -78,28 +74,29 @@ square-pos N L zero z l h = absurd (omega (arith, h .1))
 square-pos N L (suc n) z l h = omega arith
 
 -- ---- THE SUM
-sum-zero : (g n : ℕ) → n ≡ 0 → Rounds g n 1 → g ≡ 0
-sum-zero g n e h = omega (arith, h .0)
+rounds-zero : (g n u : ℕ) → 0 < u → n ≡ 0 → Rounds g n u → g ≡ 0
+rounds-zero zero n u z e h = refl
+rounds-zero (suc g) n u z e h = absurd (omega (arith, h .0))
 
 sum-close : (n m a b : ℕ) → Rounds a n 1 → Rounds b m 1 → (n + m ≡ 0) ⊎ (2 ^ 60 ≤ n + m) → Close parts 2 n m a b
 sum-close n m a b h k (inl e) =
     let p : n ≡ 0 = omega arith in
     let q : m ≡ 0 = omega arith in
-    rw (sum-zero a n p h, sum-zero b m q k, p, q) (omega arith)
+    rw (rounds-zero a n 1 (pow-pos 0) p h, rounds-zero b m 1 (pow-pos 0) q k, p, q) (omega arith)
 sum-close n m a b h k (inr l) = close-round parts 1 parts n m a b (omega arith) (sum-step n a h) (sum-step m b k)
 
 spread : (A A′ B B′ a b u : ℕ) → Close parts 2 (A + A′) (B + B′) a b → Close parts 2 ((A * u + A′ * u) * u) ((B * u + B′ * u) * u) (a * (u * u)) (b * (u * u))
 spread A A′ B B′ a b u h = from (A ∷ A′ ∷ B ∷ B′ ∷ a ∷ b ∷ u ∷ []) (u * u * (u * u) ⋆ h) (search read depth 40 fits 20000) refl
 
-some : (s : ℕ) → Sized s → (s ≡ 0) ⊎ (2 ^ 60 ≤ s)
+some : (s : ℕ) → Sized span s → (s ≡ 0) ⊎ (2 ^ 60 ≤ s)
 some s (inl e) = inl e
 some s (inr h) = inr (least unit span most unit-pos span-pos span-unit span-most s (h .0))
 
-fits : (s : ℕ) → Sized s → s ≤ unit * most
+pub fits : (s : ℕ) → Sized span s → s ≤ unit * most
 fits s (inl e) = omega arith
 fits s (inr h) = fits-sum unit span most unit-pos span-pos span-unit span-most s (h .1)
 
-pub fair-add : (x y : Complex) → Fine x → Fine y → Sized (size x + size y) → Near parts 2 (sum (value x) (value y)) (value (added x y)) × Fine (added x y)
+pub fair-add : (x y : Complex) → Fine x → Fine y → Sized span (size x + size y) → Near parts 2 (sum (value x) (value y)) (value (added x y)) × Fine (added x y)
 unfolding added
 fair-add x y f g s = (record { left = mul-pos unit-pos unit-pos; right = unit-pos; close = close }, record { re = rr .is; im = ri .is })
   where
@@ -144,20 +141,21 @@ zero-eq (fin false m e) w h = and-true _ ∙ zero-is (m * up e) unit w (down e) 
 
 -- ---- THE INVERSE
 module _ (z : Complex) (f : Fine z) (lo : unit ≤ size z * span) (hi : size z ≤ unit * span) where
-  sqr : Rounded (mul binary64 (z .re) (z .re)) (unitsOf (z .re) * unitsOf (z .re)) unit
-  sqr = mul-rounds (z .re) (z .re) _ _ (f .re) (f .re) (fits-square unit span most unit-pos span-pos span-unit span-most (unitsOf (z .re)) (unitsOf (z .im)) lo hi (unitsOf (z .re)) (omega arith))
-
-  sqi : Rounded (mul binary64 (z .im) (z .im)) (unitsOf (z .im) * unitsOf (z .im)) unit
-  sqi = mul-rounds (z .im) (z .im) _ _ (f .im) (f .im) (fits-square unit span most unit-pos span-pos span-unit span-most (unitsOf (z .re)) (unitsOf (z .im)) lo hi (unitsOf (z .im)) (omega arith))
+  -- x is the real part or the imaginary one
+  part-squared : (x : Float) → Is x (unitsOf x) → unitsOf x ≤ size z → Rounded (mul binary64 x x) (unitsOf x * unitsOf x) unit
+  part-squared x i l = mul-rounds x x _ _ i i (fits-square unit span most unit-pos span-pos span-unit span-most (unitsOf (z .re)) (unitsOf (z .im)) lo hi (unitsOf x) l)
 
   pub sq : Rounded (square z) (unitsOf (mul binary64 (z .re) (z .re)) + unitsOf (mul binary64 (z .im) (z .im))) 1
-  sq = add-rounds _ _ _ _ (sqr .is) (sqi .is) (fits-squares unit span most unit-pos span-pos span-unit span-most (unitsOf (z .re)) (unitsOf (z .im)) lo hi _ _ (sqr .law) (sqi .law))
+  sq =
+      let r = part-squared (z .re) (f .re) (omega arith) in
+      let i = part-squared (z .im) (f .im) (omega arith) in
+      add-rounds _ _ _ _ (r .is) (i .is) (fits-squares unit span most unit-pos span-pos span-unit span-most (unitsOf (z .re)) (unitsOf (z .im)) lo hi _ _ (r .law) (i .law))
 
   pub big : 2 ^ 60 * unit ≤ norm (unitsOf (z .re)) (unitsOf (z .im))
-  big = large unit span most unit-pos span-pos span-unit span-most (unitsOf (z .re)) (unitsOf (z .im)) lo hi
+  big = norm-large (unitsOf (z .re)) (unitsOf (z .im)) unit span (2 ^ 64) (2 ^ 60) span-pos (lit≤ tt) span-unit lo
 
   pub near-square : Within parts 3 0 (norm (unitsOf (z .re)) (unitsOf (z .im))) (unitsOf (square z) * unit)
-  near-square = square-step (unitsOf (z .re)) (unitsOf (z .im)) unit _ _ (unitsOf (square z)) big (sqr .law) (sqi .law) (sq .law)
+  near-square = square-step (unitsOf (z .re)) (unitsOf (z .im)) unit _ _ (unitsOf (square z)) big (part-squared (z .re) (f .re) (omega arith) .law) (part-squared (z .im) (f .im) (omega arith) .law) (sq .law)
 
   above : 0 < unitsOf (square z)
   above = square-pos _ unit (unitsOf (square z)) unit-pos big near-square
@@ -165,11 +163,8 @@ module _ (z : Complex) (f : Fine z) (lo : unit ≤ size z * span) (hi : size z �
   most-part : size z ≤ unitsOf (square z) * most
   most-part = fits-quotient unit span most unit-pos span-pos span-unit span-most (unitsOf (z .re)) (unitsOf (z .im)) lo hi (unitsOf (square z)) near-square
 
-  qr : Rounded (div binary64 (z .re) (square z)) (unitsOf (z .re) * unit) (unitsOf (square z))
-  qr = div-rounds (z .re) (square z) _ _ (f .re) (sq .is) above (le-trans (omega arith) most-part)
-
-  qi : Rounded (div binary64 (z .im) (square z)) (unitsOf (z .im) * unit) (unitsOf (square z))
-  qi = div-rounds (z .im) (square z) _ _ (f .im) (sq .is) above (le-trans (omega arith) most-part)
+  part-inverted : (x : Float) → Is x (unitsOf x) → unitsOf x ≤ size z → Rounded (div binary64 x (square z)) (unitsOf x * unit) (unitsOf (square z))
+  part-inverted x i l = div-rounds x (square z) _ _ i (sq .is) above (le-trans l most-part)
 
   near-inverse : Near parts 6 (turned (value z)) (value (record { re = div binary64 (z .re) (square z); im = div binary64 (z .im) (square z) }))
   near-inverse = record {
@@ -178,12 +173,9 @@ module _ (z : Complex) (f : Fine z) (lo : unit ≤ size z * span) (hi : size z �
     close =
         close-round parts 5 (parts * norm (unitsOf (z .re)) (unitsOf (z .im))) _ _ _ _
         (little unit span most unit-pos span-pos span-unit span-most (unitsOf (z .re)) (unitsOf (z .im)) lo hi)
-        (inverse-step (unitsOf (z .re)) unit (unitsOf (square z)) _ _ near-square (qr .law)) (inverse-step (unitsOf (z .im)) unit (unitsOf (square z)) _ _ near-square (qi .law));
+        (inverse-step (unitsOf (z .re)) unit (unitsOf (square z)) _ _ near-square (part-inverted (z .re) (f .re) (omega arith) .law))
+        (inverse-step (unitsOf (z .im)) unit (unitsOf (square z)) _ _ near-square (part-inverted (z .im) (f .im) (omega arith) .law));
   }
-
-rounds-zero : (g n u : ℕ) → 0 < u → n ≡ 0 → Rounds g n u → g ≡ 0
-rounds-zero zero n u z e h = refl
-rounds-zero (suc g) n u z e h = absurd (omega (arith, h .0))
 
 times-zero : (a b : ℕ) → a ≡ 0 → a * b ≡ 0
 times-zero a b e = rw e (omega arith)
@@ -198,35 +190,32 @@ module _ (z : Complex) (f : Fine z) (e : size z ≡ 0) where
   no-im : unitsOf (z .im) ≡ 0
   no-im = omega arith
 
-  nr : Rounded (mul binary64 (z .re) (z .re)) (unitsOf (z .re) * unitsOf (z .re)) unit
-  nr = mul-rounds (z .re) (z .re) _ _ (f .re) (f .re) (zero-le-of _ _ (times-zero _ _ no-re))
-
-  ni : Rounded (mul binary64 (z .im) (z .im)) (unitsOf (z .im) * unitsOf (z .im)) unit
-  ni = mul-rounds (z .im) (z .im) _ _ (f .im) (f .im) (zero-le-of _ _ (times-zero _ _ no-im))
+  none-squared : (x : Float) → Is x (unitsOf x) → unitsOf x ≡ 0 → Is (mul binary64 x x) (unitsOf (mul binary64 x x)) × (unitsOf (mul binary64 x x) ≡ 0)
+  none-squared x i n = let r = mul-rounds x x _ _ i i (zero-le-of _ _ (times-zero _ _ n)) in (r .is, rounds-zero _ _ unit unit-pos (times-zero _ _ n) (r .law))
 
   none-sum : unitsOf (mul binary64 (z .re) (z .re)) + unitsOf (mul binary64 (z .im) (z .im)) ≡ 0
-  none-sum = ap₂ _+_ (rounds-zero _ _ unit unit-pos (times-zero _ _ no-re) (nr .law)) (rounds-zero _ _ unit unit-pos (times-zero _ _ no-im) (ni .law))
+  none-sum = ap₂ _+_ (none-squared (z .re) (f .re) no-re .1) (none-squared (z .im) (f .im) no-im .1)
 
   ns : Rounded (square z) (unitsOf (mul binary64 (z .re) (z .re)) + unitsOf (mul binary64 (z .im) (z .im))) 1
-  ns = add-rounds _ _ _ _ (nr .is) (ni .is) (zero-le-of _ _ none-sum)
+  ns = add-rounds _ _ _ _ (none-squared (z .re) (f .re) no-re .0) (none-squared (z .im) (f .im) no-im .0) (zero-le-of _ _ none-sum)
 
   no-square : eq (square z) nought ≡ true
   no-square = zero-eq (square z) _ (ns .is) ∙ eq-eqb _ 0 (rounds-zero _ _ 1 (pow-pos 0) none-sum (ns .law))
 
-some-size : (s u e : ℕ) → 0 < u → u ≤ s * e → s ≡ 0 → ⊥
-some-size zero u e z h q = omega arith
-some-size (suc s) u e z h q = omega arith
+pub some-size : (s u e : ℕ) → 0 < u → u ≤ s * e → 0 < s
+some-size zero u e z h = absurd (omega arith)
+some-size (suc s) u e z h = omega arith
 
-pub fair-inverse : (z : Complex) → Fine z → Sized (size z) → Near parts 6 (inverse (value z)) (value (inverted z)) × Fine (inverted z)
+pub fair-inverse : (z : Complex) → Fine z → Sized span (size z) → Near parts 6 (inverse (value z)) (value (inverted z)) × Fine (inverted z)
 unfolding inverted inverse
 fair-inverse z f (inl e) =
     rw (eq-eqb (size z) 0 e, no-square z f e)
     (record { left = omega arith; right = unit-pos; close = rw (no-re z f e, no-im z f e) (omega arith) }, f)
 fair-inverse z f (inr h) =
-    rw (ne-eqb (size z) 0 (some-size (size z) unit span unit-pos (h .0)), zero-eq (square z) _ (sq z f (h .0) (h .1) .is) ∙ ne-eqb (unitsOf (square z)) 0 (λ q. omega (arith, above z f (h .0) (h .1))))
-    (near-inverse z f (h .0) (h .1), record { re = qr z f (h .0) (h .1) .is; im = qi z f (h .0) (h .1) .is })
+    rw (ne-eqb (size z) 0 (λ q. omega (arith, some-size (size z) unit span unit-pos (h .0))), zero-eq (square z) _ (sq z f (h .0) (h .1) .is) ∙ ne-eqb (unitsOf (square z)) 0 (λ q. omega (arith, above z f (h .0) (h .1))))
+    (near-inverse z f (h .0) (h .1), record { re = part-inverted z f (h .0) (h .1) (z .re) (f .re) (omega arith) .is; im = part-inverted z f (h .0) (h .1) (z .im) (f .im) (omega arith) .is })
 
-pub fair-empty : (z : Complex) → Fine z → Sized (size z) → empty z ≡ isNothing (value z)
+pub fair-empty : (z : Complex) → Fine z → Sized span (size z) → empty z ≡ isNothing (value z)
 unfolding empty
 fair-empty z f s = zero-eq _ _ (t .is) ∙ same (size z) _ (t .law) (some (size z) s)
   where
@@ -242,50 +231,44 @@ far : (s u e : ℕ) → 0 < e → e * 2 ^ 100 ≤ u → u ≤ s * e → 2 ^ 100 
 far s u e z h k = from-over (s ∷ u ∷ e ∷ []) e z (h ⊹ k) (search read depth 40 fits 20000) refl
 
 -- T is p/q
-ratio-small : (p q L T : ℕ) → 0 < q → 0 < L → p < 2 ^ 32 → q < 2 ^ 32 → Rounds T (p * L) q → T ≤ 2 ^ 34 * L
-ratio-small p q L T z l hp hq h =
-    from-over (p ∷ q ∷ L ∷ T ∷ []) 18014398509481984 (omega arith) (h .0 ⊹ 18014398509481984 * T ⋆ z ⊹ 18014398509481986 * L ⋆ hp ⊹ 9007199254740992 ⋆ hq ⊹ 9007199254740992 * 2 ^ 32 ⋆ l) (search read depth 40 fits 20000) refl
+pub ratio-most : (b p q L T : ℕ) → 0 < q → 0 < L → p ≤ b → q ≤ b → Rounds T (p * L) q → T ≤ 2 * b * L
+ratio-most b p q L T z l hp hq h =
+    from-over (b ∷ p ∷ q ∷ L ∷ T ∷ []) 18014398509481984 (omega arith) (h .0 ⊹ 18014398509481984 * T ⋆ z ⊹ 18014398509481986 * L ⋆ hp ⊹ 9007199254740992 ⋆ hq ⊹ 9007199254740992 * b ⋆ l) (search read depth 40 fits 20000) refl
 
-fits-product : (A T s L e m : ℕ) → A ≤ s → s ≤ L * e → T ≤ 2 ^ 34 * L → e * 2 ^ 40 ≤ m → A * T ≤ L * L * m
+fits-product : (A T s L e m : ℕ) → A ≤ s → s ≤ L * e → T ≤ 2 * 2 ^ 32 * L → e * 2 ^ 40 ≤ m → A * T ≤ L * L * m
 fits-product A T s L e m a h t k = from (A ∷ T ∷ L ∷ e ∷ m ∷ []) (mul-le-mul (le-trans a h) t ⊹ L * L ⋆ k) (search read depth 40 fits 20000) refl
 
-ratio-fits : (p q e m : ℕ) → 0 < q → 0 < e → p < 2 ^ 32 → e * 2 ^ 40 ≤ m → p ≤ q * m
-ratio-fits p q e m z e₀ h k = from (p ∷ q ∷ e ∷ m ∷ []) (h ⊹ k ⊹ 2 ^ 40 ⋆ e₀ ⊹ m ⋆ z) (search read depth 40 fits 20000) refl
-
-ratio-large : (p q L e : ℕ) → 0 < p → 0 < e → q < 2 ^ 32 → e * 2 ^ 100 ≤ L → parts * q ≤ p * L
-ratio-large p q L e z e₀ h k = from (p ∷ q ∷ L ∷ e ∷ []) (9007199254740992 ⋆ h ⊹ k ⊹ 2 ^ 100 ⋆ e₀ ⊹ L ⋆ z) (search read depth 40 fits 20000) refl
+pub ratio-large : (p q : ℕ) → 0 < p → q ≤ 2 ^ 46 → parts * q ≤ p * unit
+ratio-large p q z h = from (p ∷ q ∷ unit ∷ []) (parts ⋆ h ⊹ unit-large ⊹ unit ⋆ z) (search read depth 40 fits 20000) refl
 
 light : (A B L p q : ℕ) → 2 ^ 100 ≤ A + B → 0 < p → q < 2 ^ 32 → 2 * (parts * (L * q)) ≤ A * p * L + B * p * L
 light A B L p q h z k = from (A ∷ B ∷ L ∷ p ∷ q ∷ []) (L * 18014398509481984 ⋆ k ⊹ L * 2 ^ 100 ⋆ z ⊹ L * p ⋆ h) (search read depth 40 fits 20000) refl
 
 module _ (z : Complex) (f : Fine z) (p q : ℕ) (p₀ : 0 < p) (q₀ : 0 < q) (p₁ : p < 2 ^ 32) (q₁ : q < 2 ^ 32) where
   by : Rounded (ratio p q) (p * unit) q
-  by = ratio-rounds p q (omega arith) (omega arith) q₀ (ratio-fits p q span most q₀ span-pos p₁ span-ratio)
+  by = ratio-rounds p q (omega arith) (omega arith) q₀
 
-  top : (A : ℕ) → A ≤ size z → Sized (size z) → A * unitsOf (ratio p q) ≤ unit * unit * most
+  top : (A : ℕ) → A ≤ size z → Sized span (size z) → A * unitsOf (ratio p q) ≤ unit * unit * most
   top A l (inl e) = zero-le-of _ _ (times-zero A _ (omega arith))
-  top A l (inr h) = fits-product A (unitsOf (ratio p q)) (size z) unit span most l (h .1) (ratio-small p q unit _ q₀ unit-pos p₁ q₁ (by .law)) span-ratio
+  top A l (inr h) = fits-product A (unitsOf (ratio p q)) (size z) unit span most l (h .1) (ratio-most (2 ^ 32) p q unit _ q₀ unit-pos (omega arith) (omega arith) (by .law)) span-ratio
 
-  mr : Sized (size z) → Rounded (mul binary64 (z .re) (ratio p q)) (unitsOf (z .re) * unitsOf (ratio p q)) unit
-  mr s = mul-rounds (z .re) (ratio p q) _ _ (f .re) (by .is) (top (unitsOf (z .re)) (omega arith) s)
+  part-scaled : Sized span (size z) → (x : Float) → Is x (unitsOf x) → unitsOf x ≤ size z → Rounded (mul binary64 x (ratio p q)) (unitsOf x * unitsOf (ratio p q)) unit
+  part-scaled s x i l = mul-rounds x (ratio p q) _ _ i (by .is) (top (unitsOf x) l s)
 
-  mi : Sized (size z) → Rounded (mul binary64 (z .im) (ratio p q)) (unitsOf (z .im) * unitsOf (ratio p q)) unit
-  mi s = mul-rounds (z .im) (ratio p q) _ _ (f .im) (by .is) (top (unitsOf (z .im)) (omega arith) s)
-
-  near-parts : (s : Sized (size z)) → Close parts 4 (unitsOf (z .re) * p * unit) (unitsOf (z .im) * p * unit) (unitsOf (mul binary64 (z .re) (ratio p q)) * (unit * q)) (unitsOf (mul binary64 (z .im) (ratio p q)) * (unit * q))
+  near-parts : (s : Sized span (size z)) → Close parts 4 (unitsOf (z .re) * p * unit) (unitsOf (z .im) * p * unit) (unitsOf (mul binary64 (z .re) (ratio p q)) * (unit * q)) (unitsOf (mul binary64 (z .im) (ratio p q)) * (unit * q))
   near-parts (inl e) =
       rw (
-        rounds-zero _ _ unit unit-pos (times-zero _ _ (no-re z f e)) (mr (inl e) .law),
-        rounds-zero _ _ unit unit-pos (times-zero _ _ (no-im z f e)) (mi (inl e) .law),
+        rounds-zero _ _ unit unit-pos (times-zero _ _ (no-re z f e)) (part-scaled (inl e) (z .re) (f .re) (omega arith) .law),
+        rounds-zero _ _ unit unit-pos (times-zero _ _ (no-im z f e)) (part-scaled (inl e) (z .im) (f .im) (omega arith) .law),
         no-re z f e,
         no-im z f e,
       ) (omega arith)
   near-parts (inr h) =
       close-round parts 3 (parts * (unit * q)) _ _ _ _
       (light (unitsOf (z .re)) (unitsOf (z .im)) unit p q (far (size z) unit span span-pos span-large (h .0)) p₀ q₁)
-      (scale-step (unitsOf (z .re)) unit p q (unitsOf (ratio p q)) _ (ratio-large p q unit span p₀ span-pos q₁ span-large) (by .law) (mr (inr h) .law))
-      (scale-step (unitsOf (z .im)) unit p q (unitsOf (ratio p q)) _ (ratio-large p q unit span p₀ span-pos q₁ span-large) (by .law) (mi (inr h) .law))
+      (scale-step (unitsOf (z .re)) unit p q (unitsOf (ratio p q)) _ (ratio-large p q p₀ (omega arith)) (by .law) (part-scaled (inr h) (z .re) (f .re) (omega arith) .law))
+      (scale-step (unitsOf (z .im)) unit p q (unitsOf (ratio p q)) _ (ratio-large p q p₀ (omega arith)) (by .law) (part-scaled (inr h) (z .im) (f .im) (omega arith) .law))
 
-  pub fair-scale : Sized (size z) → Near parts 4 (times p q (value z)) (value (scaled p q z)) × Fine (scaled p q z)
+  pub fair-scale : Sized span (size z) → Near parts 4 (times p q (value z)) (value (scaled p q z)) × Fine (scaled p q z)
   unfolding scaled
-  fair-scale s = (record { left = mul-pos unit-pos q₀; right = unit-pos; close = near-parts s }, record { re = mr s .is; im = mi s .is })
+  fair-scale s = (record { left = mul-pos unit-pos q₀; right = unit-pos; close = near-parts s }, record { re = part-scaled s (z .re) (f .re) (omega arith) .is; im = part-scaled s (z .im) (f .im) (omega arith) .is })

@@ -1,17 +1,16 @@
 -- Nearness of a rounded point to an exact one, and rounded calculation that keeps it.
 -- Assumes nothing.
 use Prim.Native.Nat.{ℕ, zero, suc, _+_, _*_, _≤_, _<_}
-use mathlib.Core.Path.{_≡_, refl, sym, _∙_, ap, ap₂}
-use mathlib.Core.Bool.{Bool, true, false}
+use mathlib.Core.Path.{_≡_, refl, sym, _∙_, ap}
+use mathlib.Core.Bool.{Bool, true, false, cond}
 use mathlib.Core.List.{[], _∷_}
 use native.Mathlib.Omega.{arith}
 use native.Mathlib.Nat.{le-refl, mul-le-mul, mul-pos}
-use lib.Dec.{eqb}
 use borrow.Author.Tests.{eqb-true, eqb-false, eq-eqb, ne-eqb}
-use Rattle.algebra.specs.Reading.{identity, from, from-over, read, _⊹_, _⋆_}
+use Rattle.algebra.specs.Reading.{identity, from, read, _⊹_, _⋆_}
 use Rattle.algebra.specs.Polynomial.{two-sq}
 use Rattle.enclosure.specs.Close.{Close, norm, close-scale, close-unscale, close-more, close-sum, close-invert, close-trans}
-use Rattle.enclosure.specs.Point.{pick, Point, Ops, nothing, isNothing, sum, times, turned, inverse, exact}
+use Rattle.enclosure.specs.Point.{Point, Ops, nothing, isNothing, sum, times, turned, inverse, exact}
 
 close-eq : (M k : ℕ) {A B a b A′ B′ a′ b′ : ℕ} → A ≡ A′ → B ≡ B′ → a ≡ a′ → b ≡ b′ → Close M k A B a b → Close M k A′ B′ a′ b′
 close-eq M k p q r s h = rw (← p, ← q, ← r, ← s) h
@@ -98,7 +97,7 @@ zero-left M k A B a b z l e h =
     sq-zero (2 * (M * M)) A B (mul-pos (omega arith) (mul-pos z z))
     (from (M ∷ k ∷ A ∷ B ∷ []) (4 ⋆ (rw (p, q) at h) ⊹ (A + B) * (A + B) ⋆ mul-le-mul l l ⊹ M * M ⋆ two-sq A B) (search read depth 40 fits 20000) refl)
 
-spread : (c r i : ℕ) → r + i ≡ 0 → r * c + i * c ≡ 0
+pub spread : (c r i : ℕ) → r + i ≡ 0 → r * c + i * c ≡ 0
 spread c r i h = let p : r ≡ 0 = omega arith in let q : i ≡ 0 = omega arith in rw (p, q) (omega arith)
 
 gathered : (c r i : ℕ) → 0 < c → r * c + i * c ≡ 0 → r + i ≡ 0
@@ -115,7 +114,7 @@ near-nothing M k x y z l h = go (isNothing x) refl
         (ne-eqb (y .re + y .im) 0
         (λ q. eqb-false (x .re + x .im) 0 e (gathered (y .den) _ _ (h .right) (zero-left M k _ _ _ _ z l (spread (x .den) _ _ q) (h .close)))))
 
-norm-pos : (a b : ℕ) → (a + b ≡ 0 → ⊥) → 0 < norm a b
+pub norm-pos : (a b : ℕ) → (a + b ≡ 0 → ⊥) → 0 < norm a b
 norm-pos zero zero h = absurd (h refl)
 norm-pos zero (suc b) h = omega arith
 norm-pos (suc a) b h = omega arith
@@ -127,7 +126,7 @@ pub near-inverse : (M k c : ℕ) (x y : Point) → 0 < M → 0 < c → 2 * k ≤
 unfolding inverse
 near-inverse M k c x y z w d l h = go (isNothing x) (isNothing y) refl refl (near-nothing M k x y z d h)
   where
-    go : (s t : Bool) → isNothing x ≡ s → isNothing y ≡ t → isNothing x ≡ isNothing y → Near M (k + c) (pick s nothing (turned x)) (pick t nothing (turned y))
+    go : (s t : Bool) → isNothing x ≡ s → isNothing y ≡ t → isNothing x ≡ isNothing y → Near M (k + c) (cond s nothing (turned x)) (cond t nothing (turned y))
     go true true p q e = nothing-near M (k + c)
     go true false p q e = let c : _≡_ {A = ℕ} 0 1 = cc in absurd (omega arith)
     go false true p q e = let c : _≡_ {A = ℕ} 0 1 = cc in absurd (omega arith)
@@ -158,9 +157,6 @@ pub record Same (x y : Point) : Type 0 where
 crossed : (r d s e f : ℕ) → r * e ≡ s * d → e * (r * f) ≡ d * (s * f)
 crossed r d s e f h = identity (r ∷ e ∷ f ∷ []) (search read depth 40 fits 20000) refl ∙ ap (λ (n : ℕ). n * f) h ∙ identity (s ∷ d ∷ f ∷ []) (search read depth 40 fits 20000) refl
 
-turned-round : (r d e : ℕ) → e * (r * d) ≡ d * (r * e)
-turned-round r d e = identity (r ∷ d ∷ e ∷ []) (search read depth 40 fits 20000) refl
-
 -- what is near a point is near its equals
 pub near-same : (M k : ℕ) (x y z : Point) → 0 < y .den → Same x y → Near M k x z → Near M k y z
 near-same M k x y z p s h = record {
@@ -170,36 +166,36 @@ near-same M k x y z p s h = record {
       close-unscale M k (x .den) _ _ _ _ (h .left)
       (close-eq M k
       (crossed (x .re) (x .den) (y .re) (y .den) (z .den) (s .re)) (crossed (x .im) (x .den) (y .im) (y .den) (z .den) (s .im))
-      (turned-round (z .re) (x .den) (y .den)) (turned-round (z .im) (x .den) (y .den))
+      (third (z .re) (x .den) (y .den)) (third (z .im) (x .den) (y .den))
       (close-scale M k (y .den) _ _ _ _ (h .close)));
 }
 
 -- ---- what rounded numbers promise: R k x y says that y is within k of x; a, v and s are what a sum, an inverse and a scaling cost
-pub record Rules {A B : Type 0} (o : Ops A) (o′ : Ops B) (R : ℕ → A → B → Type 0) (Volts : ℕ → Type 0) (limit a v s : ℕ) : Type 0 where
+pub record Rules {A B : Type 0} (o : Ops A) (o′ : Ops B) (R : ℕ → A → B → Type 0) (Factor : ℕ → Type 0) (limit a v s : ℕ) : Type 0 where
   pub more : (j k : ℕ) (x : A) (y : B) → j ≤ k → R j x y → R k x y
   pub near-none : R 0 (o .none) (o′ .none)
   pub near-empty : (k : ℕ) (x : A) (y : B) → k ≤ limit → R k x y → o .empty x ≡ o′ .empty y
   pub near-add : (k : ℕ) (x x′ : A) (y y′ : B) → k ≤ limit → R k x y → R k x′ y′ → R (k + a) (o .add x x′) (o′ .add y y′)
   pub near-inverse : (k : ℕ) (x : A) (y : B) → k ≤ limit → R k x y → R (k + v) (o .inverse x) (o′ .inverse y)
-  pub near-scale : (k p q : ℕ) (x : A) (y : B) → Volts p → Volts q → k ≤ limit → R k x y → R (k + s) (o .scale p q x) (o′ .scale p q y)
+  pub near-scale : (k p q : ℕ) (x : A) (y : B) → Factor p → Factor q → k ≤ limit → R k x y → R (k + s) (o .scale p q x) (o′ .scale p q y)
 
 -- ---- rounded calculation: each step is within a, v or s of the exact step on the same numbers, and c is what an exact inverse costs.
 -- Good k y is what the numbers need besides, as an exponent in its range, after a cost of k
-pub record Fair {B : Type 0} (o : Ops B) (value : B → Point) (Good : ℕ → B → Type 0) (Volts : ℕ → Type 0) (M limit a v s c : ℕ) : Type 0 where
-  pub positive : (p : ℕ) → Volts p → 0 < p
+pub record Fair {B : Type 0} (o : Ops B) (value : B → Point) (Good : ℕ → B → Type 0) (Factor : ℕ → Type 0) (M limit a v s c : ℕ) : Type 0 where
+  pub positive : (p : ℕ) → Factor p → 0 < p
   pub good-more : (j k : ℕ) (x : B) → j ≤ k → Good j x → Good k x
   pub fair-none : Near M 0 nothing (value (o .none)) × Good 0 (o .none)
   pub fair-empty : (k : ℕ) (x : B) → k ≤ limit → Good k x → o .empty x ≡ isNothing (value x)
   pub fair-add : (k : ℕ) (x y : B) → k ≤ limit → Good k x → Good k y → Near M a (sum (value x) (value y)) (value (o .add x y)) × Good (k + 2 * a) (o .add x y)
   pub fair-inverse : (k : ℕ) (x : B) → k ≤ limit → Good k x → Near M v (inverse (value x)) (value (o .inverse x)) × Good (k + (c + 2 * v)) (o .inverse x)
-  pub fair-scale : (k p q : ℕ) (x : B) → Volts p → Volts q → k ≤ limit → Good k x → Near M s (times p q (value x)) (value (o .scale p q x)) × Good (k + 2 * s) (o .scale p q x)
+  pub fair-scale : (k p q : ℕ) (x : B) → Factor p → Factor q → k ≤ limit → Good k x → Near M s (times p q (value x)) (value (o .scale p q x)) × Good (k + 2 * s) (o .scale p q x)
 
 abbrev pub NearTo : {B : Type 0} → (B → Point) → (ℕ → B → Type 0) → ℕ → ℕ → Point → B → Type 0
 NearTo value Good M k x y = Near M k x (value y) × Good k y
 
-pub fair-rules : {B : Type 0} (o : Ops B) (value : B → Point) (Good : ℕ → B → Type 0) (Volts : ℕ → Type 0) (M limit a v s c : ℕ) → 0 < M → 0 < c
-    → 4 * (limit + c) ≤ M → 2 * (limit * (limit + c)) ≤ c * M → Fair o value Good Volts M limit a v s c → Rules exact o (NearTo value Good M) Volts limit (2 * a) (c + 2 * v) (2 * s)
-fair-rules o value Good Volts M limit a v s c z w l₁ l₂ f =
+pub fair-rules : {B : Type 0} (o : Ops B) (value : B → Point) (Good : ℕ → B → Type 0) (Factor : ℕ → Type 0) (M limit a v s c : ℕ) → 0 < M → 0 < c
+    → 4 * (limit + c) ≤ M → 2 * (limit * (limit + c)) ≤ c * M → Fair o value Good Factor M limit a v s c → Rules exact o (NearTo value Good M) Factor limit (2 * a) (c + 2 * v) (2 * s)
+fair-rules o value Good Factor M limit a v s c z w l₁ l₂ f =
     record {
       more = λ j k x y l h. (near-more M j k x (value y) l (h .0), f .good-more j k y l (h .1));
       near-none = f .fair-none;
@@ -234,7 +230,7 @@ pub inverse-proper : (x : Point) → 0 < inverse x .den
 unfolding inverse
 inverse-proper x = go (isNothing x) refl
   where
-    go : (s : Bool) → isNothing x ≡ s → 0 < pick s nothing (turned x) .den
+    go : (s : Bool) → isNothing x ≡ s → 0 < cond s nothing (turned x) .den
     go true e = omega arith
     go false e = norm-pos (x .re) (x .im) (eqb-false (x .re + x .im) 0 e)
 

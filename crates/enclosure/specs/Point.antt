@@ -1,12 +1,8 @@
 -- Exact impedances and admittances. Each lies in the closed first quadrant: R + jX as it is, and G - jB as its two sizes G and B.
 -- Assumes nothing.
-use Prim.Native.Nat.{ℕ, zero, suc, _+_, _*_, _≤_, _<_}
-use mathlib.Core.Bool.{Bool, true, false}
+use Prim.Native.Nat.{ℕ, _+_, _*_}
+use mathlib.Core.Bool.{Bool, cond}
 use lib.Dec.{eqb}
-
-abbrev pub pick : {A : Type 0} → Bool → A → A → A
-pick true a b = a
-pick false a b = b
 
 -- re/den and im/den; den is above 0 in every point that is used
 pub record Point : Type 0 where
@@ -40,7 +36,7 @@ abbrev pub turned : Point → Point
 turned x = record { re = x .re * x .den; im = x .im * x .den; den = x .re * x .re + x .im * x .im }
 
 unfoldable pub inverse : Point → Point
-inverse x = pick (isNothing x) nothing (turned x)
+inverse x = cond (isNothing x) nothing (turned x)
 
 abbrev pub exact : Ops Point
 exact = record { none = nothing; empty = isNothing; add = sum; inverse = inverse; scale = times }

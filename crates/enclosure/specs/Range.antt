@@ -1,26 +1,25 @@
--- f64 is fair in the sense of the tree's `Fair`, for a limited number of steps from numbers of a known size.
+-- f64 is fair in the sense of `Fair` of Near, for a limited number of steps from numbers of a known size.
 -- Assumes nothing.
 use Prim.Native.Nat.{ℕ, zero, suc, zero-le, _+_, _-_, _*_, _^_, _≤_, _<_}
-use mathlib.Core.Path.{_≡_, refl, sym, ap, ap₂, _∙_, subst}
-use mathlib.Core.Bool.{Bool, true, false}
+use mathlib.Core.Path.{_≡_, refl, sym, ap, _∙_}
 use mathlib.Core.List.{[], _∷_}
 use mathlib.Core.Logic.{_⊎_, inl, inr, ⊎-elim}
 use native.Mathlib.Omega.{arith}
-use native.Mathlib.Nat.{le-refl, le-trans, le-of-eq, le-dest, mul-le-mul, mul-le-mul-right, mul-pos, mul-one, mul-comm, zero-mul}
-use lib.Pow.{pow-pos, pow-add, pow-mono}
+use native.Mathlib.Nat.{le-refl, le-trans, le-of-eq, le-dest, mul-le-mul, mul-pos, zero-mul}
+use lib.Pow.{pow-add, pow-mono}
 use lib.Dec.{lit≤}
 use borrow.Author.Tests.{eq-eqb, ne-eqb}
 use lib.Ieee.{ofBits}
 use Rattle.algebra.specs.Polynomial.{two-sq, le-or-le}
 use Rattle.algebra.specs.Reading.{poly, from, from-over, read, _⊹_, _⋆_}
 use Rattle.enclosure.specs.Close.{Close, norm}
-use Rattle.enclosure.specs.Point.{Point, Ops, nothing, isNothing, sum, times, turned, inverse}
-use Rattle.enclosure.specs.Near.{Near, Fair}
+use Rattle.enclosure.specs.Point.{Point, nothing, sum, times, turned, inverse, exact}
+use Rattle.enclosure.specs.Near.{Near, Fair, Rules, NearTo, fair-rules}
 use Rattle.enclosure.specs.declared.Complex.{Complex}
-use Rattle.enclosure.specs.Units.{unit, span, unit-pos, Is, unitsOf, units-is}
+use Rattle.enclosure.specs.Units.{unit, span, Between, Sized, between-more, unit-pos, Is, unitsOf, units-is}
 use Rattle.enclosure.specs.Steps.{parts}
-use Rattle.enclosure.specs.Doubles.{nought, none, added, empty, inverted, scaled, doubles}
-use Rattle.enclosure.specs.Fair.{value, size, Fine, Sized, fair-add, fair-inverse, fair-scale, fair-empty}
+use Rattle.enclosure.specs.Doubles.{nought, added, inverted, scaled, doubles}
+use Rattle.enclosure.specs.Fair.{value, size, Fine, some-size, fair-add, fair-inverse, fair-scale, fair-empty}
 
 -- ---- near points have sizes within a factor of 2
 over-twice : (S s d : ℕ) → 2 * s + d ≡ S → 7 * (S * S) + 8 * (s * s) ≤ 16 * (S * s) → S ≤ 2 * s
@@ -52,18 +51,15 @@ near-size M k x y z l h = put (x .re) (x .im) (x .den) (y .re) (y .im) (y .den) 
     put : (a b c d e f : ℕ) → (a * f + b * f ≤ 2 * (d * c + e * c)) × (d * c + e * c ≤ 2 * (a * f + b * f)) → ((a + b) * f ≤ 2 * ((d + e) * c)) × ((d + e) * c ≤ 2 * ((a + b) * f))
     put a b c d e f q = (omega arith, omega arith)
 
--- ---- 0, or from 1/E to E
-abbrev pub Between : ℕ → ℕ → Type 0
-Between E s = (unit ≤ s * E) × (s ≤ unit * E)
+-- what is within a factor of 2 of 0 is 0
+pub no-size : (s d t u : ℕ) → 0 < d → t ≡ 0 → s * d ≤ 2 * (t * u) → s ≡ 0
+no-size zero d t u z e h = refl
+no-size (suc s) (suc d) zero u z e h = absurd (omega arith)
+no-size (suc s) (suc d) (suc t) u z e h = absurd (omega arith)
 
-between-more : (E F s : ℕ) → E ≤ F → Between E s → Between F s
-between-more E F s l h = (
-  from (E ∷ F ∷ s ∷ unit ∷ []) (h .0 ⊹ s ⋆ l) (search read depth 40 fits 20000) refl,
-  from (E ∷ F ∷ s ∷ unit ∷ []) (h .1 ⊹ unit ⋆ l) (search read depth 40 fits 20000) refl,
-)
-
-abbrev pub Volts : ℕ → Type 0
-Volts p = (0 < p) × (p < 2 ^ 32)
+-- what a scaling multiplies or divides by: volts, kVA, metres, ratios
+abbrev pub Factor : ℕ → Type 0
+Factor p = (0 < p) × (p < 2 ^ 32)
 
 module _ (w : ℕ) where
   -- d steps' worth of costs from a size within 2 ^ w
@@ -84,12 +80,15 @@ module _ (w : ℕ) where
   reach-span d l = pow-mono l
 
   -- ---- WHAT A NUMBER NEEDS: after a cost of k, of which k₀ lies before the branch
+  abbrev pub Range : ℕ → ℕ → ℕ → Type 0
+  Range k₀ k s = (s ≡ 0) ⊎ ((k₀ ≤ k) × Between (reach (k - k₀)) s)
+
   pub record Good (k₀ k : ℕ) (z : Complex) : Type 0 where
     pub fine : Fine z
-    pub range : (size z ≡ 0) ⊎ ((k₀ ≤ k) × Between (reach (k - k₀)) (size z))
+    pub range : Range k₀ k (size z)
 
-  pub good-sized : (k₀ k : ℕ) (z : Complex) → w + 5 * (k - k₀) ≤ 500 → Good k₀ k z → Sized (size z)
-  good-sized k₀ k z l g = ⊎-elim (λ e. inl e) (λ h. inr (between-more (reach (k - k₀)) span (size z) (reach-span (k - k₀) (omega arith)) (h .1))) (g .range)
+  pub good-sized : (E k₀ k : ℕ) (z : Complex) → reach (k - k₀) ≤ E → Good k₀ k z → Sized E (size z)
+  good-sized E k₀ k z l g = ⊎-elim (λ e. inl e) (λ h. inr (between-more (reach (k - k₀)) E (size z) l (h .1))) (g .range)
 
   pub good-more : (k₀ j k : ℕ) (z : Complex) → j ≤ k → Good k₀ j z → Good k₀ k z
   good-more k₀ j k z l g = record {
@@ -141,10 +140,6 @@ module _ (w : ℕ) where
   size-right : (L E s t : ℕ) → L ≤ t * E → s ≤ L * E → t ≤ L * E → (L ≤ (s + t) * (E * 2)) × (s + t ≤ L * (E * 2))
   size-right L E s t p q r = (from (L ∷ E ∷ s ∷ t ∷ []) p (search read depth 40 fits 20000) refl, omega arith)
 
-  no-size : (s d t : ℕ) → 0 < d → s * d ≤ 2 * (0 * t) → s ≡ 0
-  no-size zero d t z h = refl
-  no-size (suc s) (suc d) t z h = absurd (omega arith)
-
   -- ---- cancelling
   cancel-sum : (a b c d s u : ℕ) → 0 < u → ((a * u + b * u + (c * u + d * u)) * u ≤ 2 * (s * (u * u))) × (s * (u * u) ≤ 2 * ((a * u + b * u + (c * u + d * u)) * u)) → (a + c + (b + d) ≤ 2 * s) × (s ≤ 2 * (a + c + (b + d)))
   cancel-sum a b c d s u z h = (
@@ -157,9 +152,6 @@ module _ (w : ℕ) where
     from-over (a ∷ b ∷ p ∷ q ∷ s ∷ u ∷ []) u z (h .0) (search read depth 40 fits 20000) refl,
     from-over (a ∷ b ∷ p ∷ q ∷ s ∷ u ∷ []) u z (h .1) (search read depth 40 fits 20000) refl,
   )
-
-  abbrev Range : ℕ → ℕ → ℕ → Type 0
-  Range k₀ k s = (s ≡ 0) ⊎ ((k₀ ≤ k) × Between (reach (k - k₀)) s)
 
   joint : (k₀ k s t : ℕ) → Range k₀ k s → Range k₀ k t → (s + t ≡ 0) ⊎ ((k₀ ≤ k) × Between (reach (k - k₀) * 2) (s + t))
   joint k₀ k s t (inl p) (inl q) = inl (omega arith)
@@ -176,7 +168,7 @@ module _ (w : ℕ) where
   copied k₀ k s r (inr g) h =
       inr (omega arith, further k₀ k 4 (reach (k - k₀) * 2 * 2) 4 r (g .0) (twice-twice (reach (k - k₀))) (lit≤ tt) (size-copied unit (reach (k - k₀) * 2) s unit-pos (g .1 .0) (g .1 .1) r (h .0) (h .1)))
 
-  doubled : (k₀ k s : ℕ) → w + 5 * (k + 1 - k₀) ≤ 500 → (s ≡ 0) ⊎ ((k₀ ≤ k) × Between (reach (k - k₀) * 2) s) → Sized s
+  doubled : (k₀ k s : ℕ) → w + 5 * (k + 1 - k₀) ≤ 500 → (s ≡ 0) ⊎ ((k₀ ≤ k) × Between (reach (k - k₀) * 2) s) → Sized span s
   doubled k₀ k s l (inl e) = inl e
   doubled k₀ k s l (inr g) =
       inr (between-more (reach (k + 1 - k₀)) span s (reach-span (k + 1 - k₀) (omega arith)) (further k₀ k 1 (reach (k - k₀) * 2) 2 s (g .0) (le-refl (reach (k - k₀) * 2)) (lit≤ tt) (g .1)))
@@ -199,34 +191,23 @@ module _ (w : ℕ) where
   regroup a b u = omega arith
 
   turned-range : (k₀ k : ℕ) (x r : Complex) → Range k₀ k (size x) → Near parts 6 (inverse (value x)) (value r) → Range k₀ (k + 13) (size r)
-  turned-range k₀ k x r (inl e) h = inl (gone (size r) (near-size parts 6 nothing (value r) parts-pos (lit≤ tt) (rw (inverse-zero (value x) e) at h) .1))
-    where
-      gone : (s : ℕ) → s * 1 ≤ 2 * ((0 + 0) * unit) → s ≡ 0
-      gone s h = omega arith
+  turned-range k₀ k x r (inl e) h = inl (no-size (size r) 1 0 unit (lit≤ tt) refl (near-size parts 6 nothing (value r) parts-pos (lit≤ tt) (rw (inverse-zero (value x) e) at h) .1))
   turned-range k₀ k x r (inr g) h =
-      let n = near-size parts 6 (turned (value x)) (value r) parts-pos (lit≤ tt) (rw (inverse-some (value x) (not-none (size x) unit (reach (k - k₀)) unit-pos (g .1 .0))) at h) in
+      let s = some-size (size x) unit (reach (k - k₀)) unit-pos (g .1 .0) in
+      let n = near-size parts 6 (turned (value x)) (value r) parts-pos (lit≤ tt) (rw (inverse-some (value x) (λ e. omega arith)) at h) in
       inr (
         omega arith,
         further k₀ k 13 (reach (k - k₀) * 4) 4 (size r) (g .0) (le-refl (reach (k - k₀) * 4)) (lit≤ tt)
-            (size-turned unit (reach (k - k₀)) (size x) unit-pos (g .1 .0) (g .1 .1) (size r) (norm (unitsOf (x .re)) (unitsOf (x .im)))
-            (not-zero (size x) (not-none (size x) unit (reach (k - k₀)) unit-pos (g .1 .0)))
+            (size-turned unit (reach (k - k₀)) (size x) unit-pos (g .1 .0) (g .1 .1) (size r) (norm (unitsOf (x .re)) (unitsOf (x .im))) s
             (norm-under (unitsOf (x .re)) (unitsOf (x .im))) (norm-over (unitsOf (x .re)) (unitsOf (x .im)))
             (rw (← regroup (unitsOf (x .re)) (unitsOf (x .im)) unit) (n .0)) (rw (← regroup (unitsOf (x .re)) (unitsOf (x .im)) unit) (n .1))),
       )
-    where
-      not-none : (s u e : ℕ) → 0 < u → u ≤ s * e → s ≡ 0 → ⊥
-      not-none zero u e z h q = omega arith
-      not-none (suc s) u e z h q = omega arith
 
-      not-zero : (s : ℕ) → (s ≡ 0 → ⊥) → 0 < s
-      not-zero zero h = absurd (h refl)
-      not-zero (suc s) h = omega arith
-
-  scaled-range : (k₀ k p q : ℕ) (x r : Complex) → Volts p → Volts q → Range k₀ k (size x) → Near parts 4 (times p q (value x)) (value r) → Range k₀ (k + 8) (size r)
+  scaled-range : (k₀ k p q : ℕ) (x r : Complex) → Factor p → Factor q → Range k₀ k (size x) → Near parts 4 (times p q (value x)) (value r) → Range k₀ (k + 8) (size r)
   scaled-range k₀ k p q x r hp hq g h = go g (cancel-scale (unitsOf (x .re)) (unitsOf (x .im)) p q (size r) unit unit-pos (near-size parts 4 (times p q (value x)) (value r) parts-pos (lit≤ tt) h))
     where
       go : Range k₀ k (size x) → (size x * p ≤ 2 * (size r * q)) × (size r * q ≤ 2 * (size x * p)) → Range k₀ (k + 8) (size r)
-      go (inl e) n = inl (no-size (size r) q p (hq .0) (rw e at (n .1)))
+      go (inl e) n = inl (no-size (size r) q (size x) p (hq .0) e (n .1))
       go (inr g) n =
           inr (
             omega arith,
@@ -250,14 +231,14 @@ module _ (w : ℕ) where
 
     good-inverse : (k : ℕ) (x : Complex) → k ≤ limit → Good k₀ k x → Near parts 6 (inverse (value x)) (value (inverted x)) × Good k₀ (k + 13) (inverted x)
     good-inverse k x l g =
-        let f = fair-inverse x (g .fine) (good-sized k₀ k x (omega arith) g) in (f .0, record { fine = f .1; range = turned-range k₀ k x (inverted x) (g .range) (f .0) })
+        let f = fair-inverse x (g .fine) (good-sized span k₀ k x (reach-span (k - k₀) (omega arith)) g) in (f .0, record { fine = f .1; range = turned-range k₀ k x (inverted x) (g .range) (f .0) })
 
-    good-scale : (k p q : ℕ) (x : Complex) → Volts p → Volts q → k ≤ limit → Good k₀ k x → Near parts 4 (times p q (value x)) (value (scaled p q x)) × Good k₀ (k + 8) (scaled p q x)
+    good-scale : (k p q : ℕ) (x : Complex) → Factor p → Factor q → k ≤ limit → Good k₀ k x → Near parts 4 (times p q (value x)) (value (scaled p q x)) × Good k₀ (k + 8) (scaled p q x)
     good-scale k p q x hp hq l g =
-        let f = fair-scale x (g .fine) p q (hp .0) (hq .0) (hp .1) (hq .1) (good-sized k₀ k x (omega arith) g) in
+        let f = fair-scale x (g .fine) p q (hp .0) (hq .0) (hp .1) (hq .1) (good-sized span k₀ k x (reach-span (k - k₀) (omega arith)) g) in
         (f .0, record { fine = f .1; range = scaled-range k₀ k p q x (scaled p q x) hp hq (g .range) (f .0) })
 
-    pub doubles-fair : Fair doubles value (Good k₀) Volts parts limit 2 6 4 1
+    pub doubles-fair : Fair doubles value (Good k₀) Factor parts limit 2 6 4 1
     doubles-fair = record {
       positive = λ p h. h .0;
       good-more = good-more k₀;
@@ -265,8 +246,15 @@ module _ (w : ℕ) where
         record { left = omega arith; right = unit-pos; close = rw nought-units (omega arith) },
         record { fine = record { re = rw nought-units nought-is; im = rw nought-units nought-is }; range = inl (rw nought-units refl) },
       );
-      fair-empty = λ k x l g. fair-empty x (g .fine) (good-sized k₀ k x (omega arith) g);
+      fair-empty = λ k x l g. fair-empty x (g .fine) (good-sized span k₀ k x (reach-span (k - k₀) (omega arith)) g);
       fair-add = good-add;
       fair-inverse = good-inverse;
       fair-scale = good-scale;
     }
+
+-- F64 KEEPS THE RULES OF NEARNESS for a further cost of 50, from numbers that are 0 or from 2 ^ -200 to 2 ^ 200
+pub f64-rules : (k : ℕ) → k ≤ 1000000 → Rules exact doubles (NearTo value (Good 200 k) parts) Factor (k + 50) 4 13 8
+f64-rules k l = fair-rules doubles value (Good 200 k) Factor parts (k + 50) 2 6 4 1 (omega arith) (omega arith) (omega arith) products (doubles-fair 200 k (k + 50) (omega arith))
+  where
+    products : 2 * ((k + 50) * (k + 50 + 1)) ≤ 1 * parts
+    products = let p : k + 50 ≤ 1000050 = omega arith in let q : k + 50 + 1 ≤ 1000051 = omega arith in omega (arith, mul-le-mul p q)

@@ -5,7 +5,7 @@ use mathlib.Core.Path.{_≡_, refl}
 use mathlib.Core.Bool.{Bool, true, false, not}
 use native.Mathlib.Omega.{arith}
 use native.Mathlib.Numerals.{add-one}
-use native.Mathlib.Nat.{mul-le-mul, lt-of-le-of-lt, lt-of-not-le, le-of-suc-le-suc, le-antisymm, le-refl, le-trans, not-suc-le-self, div-mul-le-self, lt-div-mul-add}
+use native.Mathlib.Nat.{mul-le-mul, lt-of-le-of-lt, lt-of-not-le, le-antisymm, le-refl, le-trans, not-suc-le-self}
 use lib.Dec.{T, lit<, leb, leb→le, nleb→lt, eqb, eqb→eq}
 
 -- twice r, or one more

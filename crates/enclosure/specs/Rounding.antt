@@ -1,20 +1,18 @@
 -- One rounding to f64: off by at most 2 ^ -53 of the value and half of the smallest f64, for every fraction that is not negative and at most 2 ^ 1023.
 -- Assumes nothing.
-use mathlib.Core.Path.{_≡_, refl, sym, ap, _∙_, subst}
+use mathlib.Core.Path.{_≡_, sym, ap, _∙_, subst}
 use mathlib.Core.Logic.{⊎-elim}
 use Prim.Native.Nat.{ℕ, suc, _+_, _-_, _*_, _/_, _%_, _^_, _≤_, _<_, compare, Ordering, Ordering·lt, Ordering·eq, Ordering·gt}
 use native.Mathlib.Nat.{le-trans, le-of-eq, add-mul, one-mul, mul-one, mul-comm, mul-assoc, mul-pos, mul-le-mul-right, le-div-iff-mul-le, div-add-mod', mod-lt}
 use native.Mathlib.Omega.{arith}
-use mathlib.Core.Bool.{Bool, true, false, not}
+use mathlib.Core.Bool.{not}
 use lib.Dec.{T, isLe, isEq, eqb, leb→le, nleb→lt, eqb→eq, eqb-refl}
 use lib.Arith.{lt-of-le-ne}
 use lib.Pow.{pow-add, pow-pos}
-use lib.Ieee.{Float, binary64, nearest, size, round}
+use lib.Ieee.{nearest, size}
 use lib.Ieee.Digits.{size-reaches}
-use lib.Ieee.Exact.{HasValue}
 use lib.Ieee.Nearest.{closest}
 use lib.Ieee.Order.{drop, kept}
-use lib.Ieee.Scale.{grid, overflow, round-val}
 use Rattle.algebra.specs.Polynomial.{le-or-le}
 
 -- ---- a fraction to the nearest whole number is off by a half at most

@@ -1,24 +1,21 @@
 -- Where an element's calculation starts: whole numbers are f64s, and their sizes are in range.
 -- Assumes nothing.
-use Prim.Native.Nat.{ℕ, zero, suc, _+_, _*_, _^_, _≤_, _<_}
-use mathlib.Core.Path.{_≡_, refl, sym, ap, ap₂, _∙_}
-use mathlib.Core.Bool.{Bool, true, false, true≢false}
+use Prim.Native.Nat.{ℕ, _+_, _*_, _^_, _≤_, _<_}
+use mathlib.Core.Path.{_≡_, refl, sym, ap, _∙_}
+use mathlib.Core.Bool.{false}
 use mathlib.Core.List.{[], _∷_}
 use mathlib.Core.Logic.{_⊎_, inl, inr}
 use native.Mathlib.Omega.{arith}
-use native.Mathlib.Nat.{le-refl, le-trans, mul-le-mul, mul-le-mul-right, mul-right-comm, mul-one, one-mul, mul-pos}
-use lib.Dec.{lit≤}
+use native.Mathlib.Nat.{le-refl, eq-zero-or-pos, mul-right-comm, mul-one}
 use lib.Ieee.{Float, nan, inf, fin, up, down}
 use lib.Ieee.Exact.{HasValue}
 use Rattle.algebra.specs.Reading.{poly, from, read, _⊹_, _⋆_}
-use Rattle.enclosure.specs.Point.{Point}
-use Rattle.enclosure.specs.Near.{Near, NearTo}
-use Rattle.enclosure.specs.declared.Complex.{Complex}
+use Rattle.enclosure.specs.Near.{spread, NearTo}
 use Rattle.enclosure.specs.Units.{unit, unit-pos, Is, unitsOf, units-is, ofNat, exact}
 use Rattle.enclosure.specs.Steps.{parts}
 use Rattle.enclosure.specs.Doubles.{whole}
-use Rattle.enclosure.specs.Fair.{value, size, Fine}
-use Rattle.enclosure.specs.Range.{Good, reach}
+use Rattle.enclosure.specs.Fair.{value}
+use Rattle.enclosure.specs.Range.{Range, Good, reach}
 
 widened : (x : Float) (n : ℕ) → HasValue x false n 1 → Is x (n * unit)
 widened nan n h = absurd h
@@ -40,23 +37,14 @@ low a b u h = from (a ∷ b ∷ u ∷ []) (u * reach 200 0 ⋆ h) (search read d
 high : (a b u : ℕ) → a < 2 ^ 32 → b < 2 ^ 32 → a * u + b * u ≤ u * reach 200 0
 high a b u p q = from (a ∷ b ∷ u ∷ []) (u ⋆ p ⊹ u ⋆ q) (search read depth 40 fits 20000) refl
 
-none : (a b u : ℕ) → a + b ≡ 0 → a * u + b * u ≡ 0
-none zero zero u h = omega arith
-none zero (suc b) u h = absurd (omega arith)
-none (suc a) b u h = absurd (omega arith)
-
-some : (n : ℕ) → (n ≡ 0) ⊎ (0 < n)
-some zero = inl refl
-some (suc n) = inr (omega arith)
-
 -- EXACT, and good from here on
 pub whole-near : (a b : ℕ) → a < 2 ^ 32 → b < 2 ^ 32 → NearTo value (Good 200 0) parts 0 (record { re = a; im = b; den = 1 }) (whole a b)
 unfolding whole
 whole-near a b p q = (
   record { left = omega arith; right = unit-pos; close = rw (units-whole a p, units-whole b q) (same a b unit) },
-  record { fine = record { re = rw (units-whole a p) (is-whole a p); im = rw (units-whole b q) (is-whole b q) }; range = rw (units-whole a p, units-whole b q) (go (some (a + b))) },
+  record { fine = record { re = rw (units-whole a p) (is-whole a p); im = rw (units-whole b q) (is-whole b q) }; range = rw (units-whole a p, units-whole b q) (go (eq-zero-or-pos (a + b))) },
 )
   where
-    go : (a + b ≡ 0) ⊎ (0 < a + b) → (a * unit + b * unit ≡ 0) ⊎ ((0 ≤ 0) × ((unit ≤ (a * unit + b * unit) * reach 200 0) × (a * unit + b * unit ≤ unit * reach 200 0)))
-    go (inl e) = inl (none a b unit e)
+    go : (a + b ≡ 0) ⊎ (0 < a + b) → Range 200 0 0 (a * unit + b * unit)
+    go (inl e) = inl (spread unit a b e)
     go (inr h) = inr (le-refl 0, (low a b unit h, high a b unit p q))

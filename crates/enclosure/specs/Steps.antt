@@ -1,13 +1,11 @@
 -- The errors of a sum, an inverse and a scaling of f64, in whole numbers: one part is 2 ^ -53.
 -- Assumes nothing.
-use Prim.Native.Nat.{ℕ, zero, suc, _+_, _*_, _^_, _≤_, _<_}
-use mathlib.Core.Path.{_≡_, refl, sym}
+use Prim.Native.Nat.{ℕ, _+_, _*_, _^_, _≤_}
+use mathlib.Core.Path.{refl}
 use mathlib.Core.List.{[], _∷_}
-use mathlib.Core.Logic.{⊎-elim}
 use native.Mathlib.Omega.{arith}
-use native.Mathlib.Nat.{le-trans, mul-le-mul, mul-pos, le-dest}
-use Rattle.algebra.specs.Polynomial.{two-sq, le-or-le}
-use Rattle.algebra.specs.Reading.{poly, from, from-over, read, _⊹_, _⋆_}
+use native.Mathlib.Nat.{le-trans}
+use Rattle.algebra.specs.Reading.{from, from-over, read, _⊹_, _⋆_}
 use Rattle.enclosure.specs.Close.{Within, norm}
 use Rattle.enclosure.specs.Rounding.{Rounds}
 

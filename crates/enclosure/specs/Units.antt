@@ -1,13 +1,14 @@
 -- An f64 that is finite and not negative as a whole number of smallest f64s, and the operations on those numbers.
 -- Assumes nothing.
 use mathlib.Core.Path.{_≡_, refl, sym, ap, _∙_, subst}
-use Prim.Native.Nat.{ℕ, zero, suc, _+_, _*_, _/_, _^_, _≤_, _<_}
+use Prim.Native.Nat.{ℕ, _+_, _*_, _/_, _^_, _≤_, _<_}
 use mathlib.Core.List.{[], _∷_}
-use native.Mathlib.Nat.{le-trans, le-of-eq, mul-one, one-mul, mul-comm, mul-assoc, mul-pos, mul-le-mul, mul-le-mul-right, mul-div-cancel, le-of-mul-le-mul-right}
+use mathlib.Core.Logic.{_⊎_, inl, inr, ⊎-elim}
+use native.Mathlib.Nat.{le-trans, le-of-eq, mul-one, one-mul, mul-comm, mul-assoc, mul-pos, mul-le-mul, mul-le-mul-right, mul-div-cancel}
 use native.Mathlib.Omega.{arith}
-use mathlib.Core.Bool.{Bool, true, false}
+use mathlib.Core.Bool.{false}
 use lib.Dec.{lit≤}
-use lib.Pow.{pow-add, pow-pos, pow-mono}
+use lib.Pow.{pow-pos}
 use lib.IntN.{pos}
 use lib.Ieee.{Float, binary64, round, ofInt, add, mul, div}
 use lib.Ieee.Exact.{HasValue}
@@ -58,6 +59,14 @@ pub span-large : span * 2 ^ 100 ≤ unit
 unfolding span unit
 span-large = lit≤ tt
 
+pub unit-large : 2 ^ 100 ≤ unit
+unfolding unit
+unit-large = lit≤ tt
+
+pub extent-range : 2 ^ 200 ≤ extent
+unfolding extent
+extent-range = lit≤ tt
+
 pub extent-span : extent ≤ span
 unfolding extent span
 extent-span = lit≤ tt
@@ -73,6 +82,22 @@ extent-most = lit≤ tt
 pub extent-pos : 0 < extent
 unfolding extent
 extent-pos = pow-pos 450
+
+-- ---- s of the smallest are from 1/E to E; and are 0 or that
+abbrev pub Between : ℕ → ℕ → Type 0
+Between E s = (unit ≤ s * E) × (s ≤ unit * E)
+
+abbrev pub Sized : ℕ → ℕ → Type 0
+Sized E s = (s ≡ 0) ⊎ Between E s
+
+pub between-more : (E F s : ℕ) → E ≤ F → Between E s → Between F s
+between-more E F s l h = (
+  from (E ∷ F ∷ s ∷ unit ∷ []) (h .0 ⊹ s ⋆ l) (search read depth 40 fits 20000) refl,
+  from (E ∷ F ∷ s ∷ unit ∷ []) (h .1 ⊹ unit ⋆ l) (search read depth 40 fits 20000) refl,
+)
+
+pub sized-more : (E F s : ℕ) → E ≤ F → Sized E s → Sized F s
+sized-more E F s l = ⊎-elim (λ e. inl e) (λ h. inr (between-more E F s l h))
 
 -- x is w of the smallest, and which w
 abbrev pub Is : Float → ℕ → Type 0
@@ -159,15 +184,18 @@ pub exact : (n : ℕ) → n ≤ 2 ^ 53 → HasValue (ofNat n) false n 1
 unfolding ofInt
 exact n h = round-whole binary64 false n h
 
-pub ratio-rounds : (p q : ℕ) → p ≤ 2 ^ 53 → q ≤ 2 ^ 53 → 0 < q → p ≤ q * most → Rounded (div binary64 (ofNat p) (ofNat q)) (p * unit) q
-ratio-rounds p q lp lq z l =
-    moved (div binary64 (ofNat p) (ofNat q)) (round binary64 false (p * 1) (q * 1)) (p * unit) q 1 (p * 1 * unit) (q * 1)
-    (div-at binary64 (ofNat p) (ofNat q) p 1 q 1 (pow-pos 0) (pow-pos 0) z (exact p lp) (exact q lq)) (pow-pos 0) (ap (λ (z : ℕ). z * unit) (mul-one p) ∙ sym (one-mul (p * unit))) (mul-comm q 1)
-    (rounded (p * 1) (q * 1) (mul-pos z (pow-pos 0)) (rw (mul-one p, mul-one q) l))
-
 squares-most : 2 ^ 53 * 2 ^ 53 ≤ 1 * 1 * most
 unfolding most
 squares-most = lit≤ tt
+
+whole-most : (p q : ℕ) → p ≤ 2 ^ 53 → 0 < q → p ≤ q * most
+whole-most p q l z = from (p ∷ q ∷ most ∷ []) (l ⊹ squares-most ⊹ most ⋆ z) (search read depth 40 fits 20000) refl
+
+pub ratio-rounds : (p q : ℕ) → p ≤ 2 ^ 53 → q ≤ 2 ^ 53 → 0 < q → Rounded (div binary64 (ofNat p) (ofNat q)) (p * unit) q
+ratio-rounds p q lp lq z =
+    moved (div binary64 (ofNat p) (ofNat q)) (round binary64 false (p * 1) (q * 1)) (p * unit) q 1 (p * 1 * unit) (q * 1)
+    (div-at binary64 (ofNat p) (ofNat q) p 1 q 1 (pow-pos 0) (pow-pos 0) z (exact p lp) (exact q lq)) (pow-pos 0) (ap (λ (z : ℕ). z * unit) (mul-one p) ∙ sym (one-mul (p * unit))) (mul-comm q 1)
+    (rounded (p * 1) (q * 1) (mul-pos z (pow-pos 0)) (rw (mul-one p, mul-one q) (whole-most p q lp z)))
 
 -- the square of a whole number
 pub square-rounds : (n : ℕ) → n ≤ 2 ^ 53 → Rounded (mul binary64 (ofNat n) (ofNat n)) (n * n * unit) 1

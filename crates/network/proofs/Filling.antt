@@ -1,6 +1,6 @@
 -- Arrays that a loop fills: record by record, and by adding up what stands at each bus.
 use mathlib.Core.Path.{_≡_, refl, sym, _∙_, ap, ap₂}
-use mathlib.Core.Bool.{Bool, true, false, _&&_}
+use mathlib.Core.Bool.{Bool, true, false, cond, _&&_}
 use mathlib.Core.List.{List, []}
 use Prim.Native.Nat.{ℕ, _+_, _≤_, _<_}
 use native.Mathlib.Omega.{arith}
@@ -10,7 +10,6 @@ use lib.ListN.{length, take, set, getD, replicate, length-take, length-set, leng
 use lib.Seq.{take-all, getD-take, getD-set-same, getD-set-other}
 use borrow.Author.Tests.{eqb-true, eqb-false, eq-eqb, ltb-true, ltb-false, lt-ltb}
 use Rattle.enclosure.specs.declared.Complex.{Complex}
-use Rattle.enclosure.specs.Point.{pick}
 use Rattle.enclosure.specs.Doubles.{nought, none, added}
 use Rattle.tree.specs.Sums.{sumOf, sum-more}
 use Rattle.network.specs.Network.{maxBuses}
@@ -55,7 +54,7 @@ pub filled-number : {X : Type 0} (f : X → ℕ) (blank : X) (l : List X) (v : L
     → ((i : ℕ) → i < maxBuses → getD v i 0 ≡ f (getD l i blank)) → (i : ℕ) → numberAt v i ≡ f (getD l i blank)
 filled-number f blank l v e m h i = go (ltb i maxBuses) refl
   where
-    go : (t : Bool) → ltb i maxBuses ≡ t → pick t (getD v i 0) 0 ≡ f (getD l i blank)
+    go : (t : Bool) → ltb i maxBuses ≡ t → cond t (getD v i 0) 0 ≡ f (getD l i blank)
     go true q = h i (ltb-true i maxBuses q)
     go false q = let n = ltb-false i maxBuses q in sym (ap f (List·getD-eq-default l blank {n = i} (omega arith)) ∙ e)
 
@@ -81,7 +80,7 @@ module _ {S : Type 0} (bus : S → ℕ) (counts : S → Bool) (gives : S → Com
 
   -- one source more: it counts at a bus of the table, or not
   module _ (l : List S) (re im : List Float) (j : ℕ) (p : S) (m : j < length l) (e : p ≡ getD l j d) (h : Stands (take j l) re im) where
-    more : (b : ℕ) → sumOf added (at b) gives none (take (j + 1) l) ≡ pick (at b p) (added (sumOf added (at b) gives none (take j l)) (gives p)) (sumOf added (at b) gives none (take j l))
+    more : (b : ℕ) → sumOf added (at b) gives none (take (j + 1) l) ≡ cond (at b p) (added (sumOf added (at b) gives none (take j l)) (gives p)) (sumOf added (at b) gives none (take j l))
     more b = rw e (sum-more added (at b) gives none l d j m)
 
     pub stands-more : (t : Complex) → bus p < maxBuses → counts p ≡ true → t ≡ added (pointAt re im (bus p)) (gives p)
@@ -101,7 +100,7 @@ module _ {S : Type 0} (bus : S → ℕ) (counts : S → Bool) (gives : S → Com
         go b r true k = rw (← eqb-true (bus p) b k) here
         go b r false k =
             let o : b ≡ bus p → ⊥ = λ w. eqb-false (bus p) b k (sym w) in
-            ap₂ (λ (x y : Float). pick (ltb b maxBuses) (record { re = x; im = y }) none) (getD-set-other re (bus p) b (t .re) nan o) (getD-set-other im (bus p) b (t .im) nan o)
+            ap₂ (λ (x y : Float). cond (ltb b maxBuses) (record { re = x; im = y }) none) (getD-set-other re (bus p) b (t .re) nan o) (getD-set-other im (bus p) b (t .im) nan o)
             ∙ h .1 .1 b r
             ∙ sym (rw (q, k) at (more b))
 

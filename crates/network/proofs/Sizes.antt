@@ -1,14 +1,13 @@
 -- Whole bounds stay at most 2 ^ 53, whatever they bound.
-use mathlib.Core.Bool.{Bool, true, false}
+use mathlib.Core.Bool.{Bool, true, false, cond}
 use Prim.Native.Nat.{ℕ, _+_, _^_, _≤_}
 use native.Mathlib.Omega.{arith}
 use Rattle.enclosure.specs.declared.Complex.{Complex}
-use Rattle.enclosure.specs.Point.{pick}
 use Rattle.enclosure.specs.Doubles.{empty, sizeBelow, lowerOf, upperOf}
 use Rattle.enclosure.specs.Climb.{size-small}
 use Rattle.elements.specs.Currents.{machinePeakBy, converterPeakBy}
 
-picked : (t : Bool) (n m : ℕ) → n ≤ m → pick t 0 n ≤ m
+picked : (t : Bool) (n m : ℕ) → n ≤ m → cond t 0 n ≤ m
 picked true n m h = omega arith
 picked false n m h = h
 

@@ -4,7 +4,6 @@ use Prim.Native.Nat.{ℕ, zero, suc, _+_, _*_, _^_, _≤_, _<_}
 use mathlib.Core.Path.{_≡_, refl, sym, _∙_, ap, subst}
 use mathlib.Core.Bool.{true}
 use mathlib.Core.List.{List, [], _∷_}
-use mathlib.Core.Logic.{inl, inr}
 use native.Mathlib.Omega.{arith}
 use native.Mathlib.Nat.{le-refl, le-trans, le-of-eq, mul-le-mul, mul-add, mul-pos}
 use lib.Dec.{lit<, lit≤}
@@ -16,11 +15,10 @@ use Rattle.enclosure.specs.Root.{root-le}
 use Rattle.enclosure.specs.Point.{Point, inverse, turned}
 use Rattle.enclosure.specs.Near.{NearTo}
 use Rattle.enclosure.specs.Steps.{parts}
-use Rattle.enclosure.specs.Units.{unit, extent}
-use Rattle.enclosure.specs.Fair.{value, size}
+use Rattle.enclosure.specs.Units.{extent, extent-range, sized-more}
+use Rattle.enclosure.specs.Fair.{value}
 use Rattle.enclosure.specs.Range.{Good}
-use Rattle.enclosure.specs.Amperes.{Extent}
-use Rattle.enclosure.specs.Chain.{width}
+use Rattle.enclosure.specs.Amperes.{width}
 use Rattle.enclosure.specs.declared.Complex.{Complex}
 use Rattle.elements.specs.Factors.{factorC}
 use Rattle.elements.specs.Sizes.{factorC-sized}
@@ -31,7 +29,7 @@ use Rattle.tree.specs.Grid.{seen}
 use Rattle.tree.specs.Converters.{carried, carried-real}
 use Rattle.tree.specs.Sums.{sums}
 use Rattle.tree.specs.Bound.{seen-most}
-use Rattle.tree.specs.Held.{Held, held-more, held-good, InRange}
+use Rattle.tree.specs.Held.{Held, held-more, held-good}
 use Rattle.tree.specs.Sound.{sound-proper}
 use Rattle.tree.specs.Fed.{seen-reactive}
 use Rattle.tree.specs.Seen.{seen-near, seen-low, seen-high}
@@ -120,14 +118,6 @@ sums-times : (c : ℕ) (f : ℕ → ℕ) (n : ℕ) → sums (λ i. c * f i) n �
 sums-times c f zero = omega arith
 sums-times c f (suc n) = ap (λ (m : ℕ). m + c * f n) (sums-times c f n) ∙ sym (mul-add c (sums f n) (f n))
 
-range-extent : (y : Complex) → InRange y → Extent (size y)
-unfolding extent
-range-extent y (inl e) = inl e
-range-extent y (inr h) = inr (wide (2 ^ 200) (2 ^ 450) unit (size y) (lit≤ tt) (h .0), wide (2 ^ 200) (2 ^ 450) (size y) unit (lit≤ tt) (h .1))
-  where
-    wide : (e f u s : ℕ) → e ≤ f → u ≤ s * e → u ≤ s * f
-    wide e f u s l h = from (e ∷ f ∷ u ∷ s ∷ []) (h ⊹ s ⋆ l) (search read depth 40 fits 20000) refl
-
 -- a lower bound is not above an upper one
 order : (q D l u X : ℕ) → 0 < q * (D * D) → q * (l * l * (D * D)) ≤ X → X ≤ q * (u * u * (D * D)) → l ≤ u
 order q D l u X z h k = root-le l u (from-over (q ∷ D ∷ l ∷ u ∷ X ∷ []) (q * (D * D)) z (h ⊹ k) (search read depth 40 fits 20000) refl)
@@ -191,7 +181,7 @@ module _ {n : Network} (r : Rebuilt n) (source : 0 < length (n .sources)) (b : �
       let volts : (i : ℕ) → i < length (n .buses) → 0 < voltsOf n i = λ i l. le-trans (lit≤ tt) (bus-volts r i l .0) in
       let h = carried-near (gridOf n) (voltsOf n) (sound r) (levels r) (amperes r) (omega arith) (convertersBy n) 1032 (lit≤ tt) (λ i l. current-near r i (volts i l)) b lb in
       let g = carried-range (gridOf n) (voltsOf n) (sound r) (levels r) (amperes r) (omega arith) (convertersBy n) 1032 (lit≤ tt) (λ i l. current-near r i (volts i l)) b lb in
-      converter-figures (1032 + (288 + 4 * length (n .buses))) _ _ (omega arith) (h .0) (h .1) (range-extent _ g) converters-room
+      converter-figures (1032 + (288 + 4 * length (n .buses))) _ _ (omega arith) (h .0) (h .1) (sized-more (2 ^ 200) extent _ extent-range g) converters-room
 
   seen-fraction : 0 < seen (gridOf n) b b .den
   seen-fraction = seen-held .0 .left

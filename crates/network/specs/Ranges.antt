@@ -2,7 +2,7 @@
 -- Assumes nothing.
 use Prim.Native.Nat.{ℕ, suc, _+_, _*_, _^_, min, _≤_, _<_}
 use mathlib.Core.Path.{_≡_, refl, subst}
-use mathlib.Core.Bool.{Bool, true, false}
+use mathlib.Core.Bool.{Bool, true, false, cond}
 use mathlib.Core.List.{[], _∷_}
 use mathlib.Core.Logic.{inr, ⊎-elim}
 use native.Mathlib.Omega.{arith}
@@ -12,9 +12,9 @@ use lib.Dec.{ltb, eqb, lit<, lit≤}
 use lib.ListN.{length}
 use borrow.Author.Tests.{eqb-true, eqb-false, ne-eqb, leb-true}
 use Rattle.algebra.specs.Reading.{from, read, _⊹_, _⋆_}
-use Rattle.enclosure.specs.Point.{pick, Point, exact, inverse}
+use Rattle.enclosure.specs.Point.{Point, exact, inverse}
 use Rattle.enclosure.specs.Near.{inverse-proper}
-use Rattle.enclosure.specs.Range.{Volts}
+use Rattle.enclosure.specs.Range.{Factor}
 use Rattle.enclosure.specs.declared.Complex.{Complex}
 use Rattle.elements.specs.Impedance.{converter}
 use Rattle.elements.specs.Nearness.{line-near, transformer-near, feeder-near, generator-near, motor-near, converter-near, admittance-near}
@@ -52,8 +52,8 @@ turned-reactive x d h = rw (ne-eqb (x .re + x .im) 0 (λ e. omega arith)) (mul-p
 
 -- rated volts on both sides of a branch, against the nominal volts u of its bus and v of the parent
 record Sides (above below u v : ℕ) : Type 0 where
-  pub above-volts : Volts above
-  pub below-volts : Volts below
+  pub above-volts : Factor above
+  pub below-volts : Factor below
   pub above-near : 9 * (above * u) ≤ 11 * (below * v)
   pub below-near : 9 * (below * v) ≤ 11 * (above * u)
 
@@ -174,7 +174,7 @@ module _ {n : Network} (r : Rebuilt n) where
   referred-least b i lb li e = go (ltb i b) refl
     where
       go : (d : Bool) → ltb i b ≡ d → AtLeast (voltsOf n b) branchMost
-          (pick d (gridOf n .branch b .z) (square exact (gridOf n .branch i .above) (gridOf n .branch i .below) (gridOf n .branch i .z)))
+          (cond d (gridOf n .branch b .z) (square exact (gridOf n .branch i .above) (gridOf n .branch i .below) (gridOf n .branch i .z)))
       go true q = branch-least b (to-parent (parentOf (gridOf n)) b i e q .0) lb
       go false q = let t = to-child (parentOf (gridOf n)) b i e q in subst (λ (c : ℕ). AtLeast (voltsOf n c) branchMost (square exact (gridOf n .branch i .above) (gridOf n .branch i .below) (gridOf n .branch i .z))) (t .1) (branch-least-above i (t .0) li)
 
@@ -225,7 +225,7 @@ module _ {n : Network} (r : Rebuilt n) where
         let u = source-volts in
         let p = sourceAt (n .sources) j in
         let U = voltsOf n (p .bus) in
-        let hU : Volts U = (le-trans (lit≤ tt) (u .0), omega (arith, u .1)) in
+        let hU : Factor U = (le-trans (lit≤ tt) (u .0), omega (arith, u .1)) in
         cases (λ x y. Held 45 (inverse x) y)
         (λ k.
         let f = feeder-ranges r j l k in

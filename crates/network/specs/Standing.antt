@@ -2,7 +2,7 @@
 -- Assumes nothing.
 use Prim.Native.Nat.{ℕ, zero, suc, _+_, _*_, _^_, _≤_, _<_, zero-le}
 use mathlib.Core.Path.{_≡_, refl, sym, ap, subst}
-use mathlib.Core.Bool.{Bool, true, false, _&&_}
+use mathlib.Core.Bool.{Bool, true, false, cond, _&&_}
 use mathlib.Core.List.{List, [], _∷_}
 use native.Mathlib.Omega.{arith}
 use native.Mathlib.Nat.{le-refl, le-trans, mul-le-mul, mul-pos, mul-add}
@@ -10,7 +10,7 @@ use lib.Dec.{eqb, lit<, lit≤}
 use lib.ListN.{length, getD}
 use borrow.Author.Tests.{eqb-true}
 use Rattle.algebra.specs.Reading.{from, read, _⊹_, _⋆_}
-use Rattle.enclosure.specs.Point.{pick, Point, nothing, sum}
+use Rattle.enclosure.specs.Point.{Point, nothing, sum}
 use Rattle.elements.specs.Impedance.{converter}
 use Rattle.enclosure.specs.Near.{inverse-proper}
 use Rattle.tree.specs.Bound.{AtMost, most-more, most-sum}
@@ -32,7 +32,7 @@ use Rattle.network.specs.Ranges.{voltsOf, branch-impedance, machine-near
 -- how many elements pass a test
 abbrev pub countOf : {S : Type 0} → (S → Bool) → List S → ℕ
 countOf t [] = 0
-countOf t (s ∷ l) = pick (t s) 1 0 + countOf t l
+countOf t (s ∷ l) = cond (t s) 1 0 + countOf t l
 
 module _ {S : Type 0} (t : S → Bool) (y : S → Point) (d : S) where
   -- at most c/Q for each element that is counted
@@ -42,7 +42,7 @@ module _ {S : Type 0} (t : S → Bool) (y : S → Point) (d : S) where
   counted Q c (s ∷ l) h k x g = go (t s) refl (counted Q c l (λ j m. h (suc j) (omega arith)))
     where
       go : (b : Bool) → t s ≡ b → ((k : ℕ) (x : Point) → AtMost Q k x → AtMost Q (k + c * countOf t l) (sumOf sum t y x l))
-          → AtMost Q (k + c * (pick b 1 0 + countOf t l)) (sumOf sum t y (pick b (sum x (y s)) x) l)
+          → AtMost Q (k + c * (cond b 1 0 + countOf t l)) (sumOf sum t y (cond b (sum x (y s)) x) l)
       go true e f = most-more Q (k + c + c * countOf t l) _ _ (omega (arith, mul-add c 1 (countOf t l))) (f (k + c) (sum x (y s)) (most-sum Q k c x (y s) g (h 0 (omega arith) e)))
       go false e f = most-more Q (k + c * countOf t l) _ _ (omega (arith, mul-add c 0 (countOf t l))) (f k x g)
 
@@ -51,7 +51,7 @@ module _ {S : Type 0} (t : S → Bool) (y : S → Point) (d : S) where
   reactive [] h x g = g
   reactive (s ∷ l) h x g = go (t s) refl (reactive l (λ j m. h (suc j) (omega arith)))
     where
-      go : (b : Bool) → t s ≡ b → ((x : Point) → 0 < x .im → 0 < sumOf sum t y x l .im) → 0 < sumOf sum t y (pick b (sum x (y s)) x) l .im
+      go : (b : Bool) → t s ≡ b → ((x : Point) → 0 < x .im → 0 < sumOf sum t y x l .im) → 0 < sumOf sum t y (cond b (sum x (y s)) x) l .im
       go true e f = f (sum x (y s)) (le-trans (mul-pos g (h 0 (omega arith) e)) (omega arith))
       go false e f = f x g
 
@@ -60,7 +60,7 @@ module _ {S : Type 0} (t : S → Bool) (y : S → Point) (d : S) where
   real [] h x g = g
   real (s ∷ l) h x g = go (t s) (real l h)
     where
-      go : (b : Bool) → ((x : Point) → x .im ≡ 0 → sumOf sum t y x l .im ≡ 0) → sumOf sum t y (pick b (sum x (y s)) x) l .im ≡ 0
+      go : (b : Bool) → ((x : Point) → x .im ≡ 0 → sumOf sum t y x l .im ≡ 0) → sumOf sum t y (cond b (sum x (y s)) x) l .im ≡ 0
       go true f = f (sum x (y s)) (rw (g, h s) (omega arith))
       go false f = f x g
 
@@ -69,12 +69,12 @@ sums-more : (f g : ℕ → ℕ) (n : ℕ) → sums (λ i. f i + g i) n ≡ sums 
 sums-more f g zero = refl
 sums-more f g (suc n) = omega (arith, sums-more f g n)
 
-sums-one : (c : Bool) (a n : ℕ) → (n ≤ a → sums (λ i. pick (c && eqb a i) 1 0) n ≤ 0) × (sums (λ i. pick (c && eqb a i) 1 0) n ≤ 1)
+sums-one : (c : Bool) (a n : ℕ) → (n ≤ a → sums (λ i. cond (c && eqb a i) 1 0) n ≤ 0) × (sums (λ i. cond (c && eqb a i) 1 0) n ≤ 1)
 sums-one c a zero = (λ h. le-refl 0, zero-le)
 sums-one c a (suc n) = go c (eqb a n) refl (sums-one c a n)
   where
-    go : (d e : Bool) → eqb a n ≡ e → (n ≤ a → sums (λ i. pick (c && eqb a i) 1 0) n ≤ 0) × (sums (λ i. pick (c && eqb a i) 1 0) n ≤ 1)
-        → (suc n ≤ a → sums (λ i. pick (c && eqb a i) 1 0) n + pick (d && e) 1 0 ≤ 0) × (sums (λ i. pick (c && eqb a i) 1 0) n + pick (d && e) 1 0 ≤ 1)
+    go : (d e : Bool) → eqb a n ≡ e → (n ≤ a → sums (λ i. cond (c && eqb a i) 1 0) n ≤ 0) × (sums (λ i. cond (c && eqb a i) 1 0) n ≤ 1)
+        → (suc n ≤ a → sums (λ i. cond (c && eqb a i) 1 0) n + cond (d && e) 1 0 ≤ 0) × (sums (λ i. cond (c && eqb a i) 1 0) n + cond (d && e) 1 0 ≤ 1)
     go true true q h = let k = eqb-true a n q in (λ l. absurd (omega arith), omega (arith, h .0 (omega arith)))
     go true false q h = (λ l. omega (arith, h .0 (omega arith)), omega (arith, h .1))
     go false e q h = (λ l. omega (arith, h .0 (omega arith)), omega (arith, h .1))
@@ -85,7 +85,7 @@ counted-once c [] n = none n
     none : (n : ℕ) → sums (λ i. 0) n ≤ 0
     none zero = le-refl 0
     none (suc n) = omega (arith, none n)
-counted-once c (p ∷ l) n = omega (arith, sums-more (λ i. pick (c p && eqb (p .bus) i) 1 0) (λ i. countOf (λ q. c q && eqb (q .bus) i) l) n, sums-one (c p) (p .bus) n .1, counted-once c l n)
+counted-once c (p ∷ l) n = omega (arith, sums-more (λ i. cond (c p && eqb (p .bus) i) 1 0) (λ i. countOf (λ q. c q && eqb (q .bus) i) l) n, sums-one (c p) (p .bus) n .1, counted-once c l n)
 
 counted-at : (c : Source → Bool) (b : ℕ) (p : Source) → c p && eqb (p .bus) b ≡ true → (c p ≡ true) × (p .bus ≡ b)
 counted-at c b p e = let t = both-true (c p) (eqb (p .bus) b) e in (t .0, eqb-true (p .bus) b (t .1))
@@ -129,7 +129,7 @@ module _ {n : Network} (r : Rebuilt n) where
         count-few t [] = zero-le
         count-few t (p ∷ l) = go (t p) (count-few t l)
           where
-            go : (b : Bool) → countOf t l ≤ length l → pick b 1 0 + countOf t l ≤ suc (length l)
+            go : (b : Bool) → countOf t l ≤ length l → cond b 1 0 + countOf t l ≤ suc (length l)
             go true h = omega arith
             go false h = omega arith
 
@@ -150,7 +150,7 @@ module _ {n : Network} (r : Rebuilt n) where
           let m : isMachine (sourceAt (n .sources) 0) ≡ true = rw (q, k) in
           let y : 0 < admittanceOf n p .im = rw q at (machine-reactive r 0 z m) in
           let t : machineAt 0 p ≡ true = rw (k, b) in
-          subst (λ (c : Bool). 0 < sumOf sum (machineAt 0) (admittanceOf n) (pick c (sum nothing (admittanceOf n p)) nothing) l .im) (sym t)
+          subst (λ (c : Bool). 0 < sumOf sum (machineAt 0) (admittanceOf n) (cond c (sum nothing (admittanceOf n p)) nothing) l .im) (sym t)
           (reactive (machineAt 0) (admittanceOf n) blankSource l (λ j i t. inverse-proper _) (sum nothing (admittanceOf n p)) (omega arith))
 
   -- ---- the converters at bus b

@@ -6,7 +6,7 @@ use lib.Dec.{ltb, eqb}
 use lib.ListN.{getD}
 use lib.Ieee.{Float, nan}
 use Rattle.enclosure.specs.declared.Complex.{Complex}
-use Rattle.enclosure.specs.Point.{pick, nothing}
+use Rattle.enclosure.specs.Point.{nothing}
 use Rattle.enclosure.specs.Doubles.{none, added}
 use Rattle.tree.specs.Grid.{Grid}
 use Rattle.tree.specs.Sums.{sumOf}
@@ -27,11 +27,11 @@ entryOf Below b = belowOf b
 
 -- an array of numbers at any place, 0 past its end
 abbrev pub numberAt : List ℕ → ℕ → ℕ
-numberAt l i = pick (ltb i maxBuses) (getD l i 0) 0
+numberAt l i = cond (ltb i maxBuses) (getD l i 0) 0
 
 -- two arrays as a point at any place, nothing past their end
 abbrev pub pointAt : List Float → List Float → ℕ → Complex
-pointAt re im i = pick (ltb i maxBuses) (record { re = getD re i nan; im = getD im i nan }) none
+pointAt re im i = cond (ltb i maxBuses) (record { re = getD re i nan; im = getD im i nan }) none
 
 -- the sources that count, converters or machines, and what each gives at a bus of nominal volts Un
 abbrev pub counts : Bool → Source → Bool

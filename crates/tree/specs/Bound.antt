@@ -2,7 +2,7 @@
 -- Assumes nothing.
 use Prim.Native.Nat.{ℕ, zero, suc, _+_, _*_, _≤_, _<_}
 use mathlib.Core.Path.{_≡_, refl}
-use mathlib.Core.Bool.{Bool, true, false}
+use mathlib.Core.Bool.{Bool, true, false, cond}
 use mathlib.Core.List.{[], _∷_}
 use mathlib.Core.Logic.{_⊎_, inl, inr}
 use native.Mathlib.Omega.{arith}
@@ -11,7 +11,7 @@ use lib.Dec.{ltb}
 use borrow.Author.Tests.{eqb-false}
 use Rattle.algebra.specs.Polynomial.{two-sq}
 use Rattle.algebra.specs.Reading.{from, read, _⊹_, _⋆_}
-use Rattle.enclosure.specs.Point.{pick, Point, nothing, isNothing, sum, turned, inverse, exact}
+use Rattle.enclosure.specs.Point.{Point, nothing, isNothing, sum, turned, inverse, exact}
 use Rattle.tree.specs.Walk.{joined, near, near-joined, over}
 use Rattle.tree.specs.Grid.{Grid, parentOf, square, through, through-cases, seenBy, seen}
 
@@ -31,6 +31,9 @@ Low K x = (x .re + x .im ≡ 0) ⊎ (x .den ≤ K * (x .re + x .im))
 pub most-more : (Q j k : ℕ) (x : Point) → j ≤ k → AtMost Q j x → AtMost Q k x
 most-more Q j k x l h = from (Q ∷ j ∷ k ∷ x .re ∷ x .im ∷ x .den ∷ []) (h ⊹ x .den ⋆ l) (search read depth 40 fits 20000) refl
 
+pub most-under : (Q j E : ℕ) (x : Point) → 0 < Q → j ≤ E → AtMost Q j x → x .re + x .im ≤ E * x .den
+most-under Q j E x z l h = from (Q ∷ j ∷ E ∷ x .re ∷ x .im ∷ x .den ∷ []) ((x .re + x .im) ⋆ z ⊹ h ⊹ x .den ⋆ l) (search read depth 40 fits 20000) refl
+
 pub most-sum : (Q j k : ℕ) (x y : Point) → AtMost Q j x → AtMost Q k y → AtMost Q (j + k) (sum x y)
 most-sum Q j k x y h g = from (Q ∷ j ∷ k ∷ x .re ∷ x .im ∷ x .den ∷ y .re ∷ y .im ∷ y .den ∷ []) (y .den ⋆ h ⊹ x .den ⋆ g) (search read depth 40 fits 20000) refl
 
@@ -45,7 +48,7 @@ pub most-inverse : (Q P : ℕ) (x : Point) → AtLeast Q P x → AtMost Q P (inv
 unfolding inverse
 most-inverse Q P x h = go (isNothing x)
   where
-    go : (s : Bool) → AtMost Q P (pick s nothing (turned x))
+    go : (s : Bool) → AtMost Q P (cond s nothing (turned x))
     go true = omega arith
     go false = most-turned Q P x h
 
@@ -77,7 +80,7 @@ pub low-inverse : (K : ℕ) (x : Point) → AtMost 1 K x → Low K (inverse x)
 unfolding inverse
 low-inverse K x h = go (isNothing x)
   where
-    go : (s : Bool) → Low K (pick s nothing (turned x))
+    go : (s : Bool) → Low K (cond s nothing (turned x))
     go true = inl refl
     go false = inr (from (K ∷ x .re ∷ x .im ∷ x .den ∷ []) ((x .re + x .im) ⋆ h) (search read depth 40 fits 20000) refl)
 
@@ -87,7 +90,7 @@ inverse-low K x e (inr h) = most-inverse 1 (2 * K) x (from (K ∷ x .re ∷ x .i
 
 -- ---- the branch between b and its neighbour i, referred to b
 abbrev pub referred : Grid → ℕ → ℕ → Point
-referred G b i = pick (ltb i b) (G .branch b .z) (square exact (G .branch i .above) (G .branch i .below) (G .branch i .z))
+referred G b i = cond (ltb i b) (G .branch b .z) (square exact (G .branch i .above) (G .branch i .below) (G .branch i .z))
 
 -- |1/(Z + 1/Y)| ≤ 1/|Z|, whatever lies behind the branch
 pub through-most : (Q P : ℕ) (G : Grid) (b i : ℕ) (y : Point) → AtLeast Q P (referred G b i) → AtMost Q P (through exact (λ j. G .branch j .z) G b i y)
@@ -100,7 +103,7 @@ over-most : (Q P : ℕ) (joins : ℕ → Bool) (f : ℕ → Point) (x : Point) (
 over-most Q P joins f x k zero r h = most-more Q k (k + P * 0) x (omega arith) r
 over-most Q P joins f x k (suc m) r h = go (joins m) refl (over-most Q P joins f x k m r (λ i l. h i (omega arith)))
   where
-    go : (t : Bool) → joins m ≡ t → AtMost Q (k + P * m) (over sum joins f x m) → AtMost Q (k + P * suc m) (pick t (sum (over sum joins f x m) (f m)) (over sum joins f x m))
+    go : (t : Bool) → joins m ≡ t → AtMost Q (k + P * m) (over sum joins f x m) → AtMost Q (k + P * suc m) (cond t (sum (over sum joins f x m) (f m)) (over sum joins f x m))
     go true e q = most-more Q (k + P * m + P) _ _ (omega (arith, mul-suc P m)) (most-sum Q _ _ _ _ q (h m (omega arith) e))
     go false e q = most-more Q (k + P * m) _ _ (omega (arith, mul-suc P m)) q
 

@@ -2,13 +2,13 @@
 -- Assumes nothing.
 use Prim.Native.Nat.{ℕ, zero, suc, _+_, _*_, _≤_, _<_}
 use mathlib.Core.Path.{_≡_, refl, _∙_, ap, ap₂}
-use mathlib.Core.Bool.{Bool, true, false}
-use mathlib.Core.Logic.{_⊎_, inl, inr, ⊎-elim}
+use mathlib.Core.Bool.{Bool, true, false, cond}
+use mathlib.Core.Logic.{⊎-elim}
 use native.Mathlib.Omega.{arith}
-use native.Mathlib.Nat.{le-refl}
+use native.Mathlib.Nat.{le-refl, eq-zero-or-pos}
 use native.Mathlib.Numerals.{add-one}
 use lib.Dec.{ltb}
-use Rattle.enclosure.specs.Point.{pick, Point, Ops, exact, sum}
+use Rattle.enclosure.specs.Point.{Point, Ops, exact, sum}
 use Rattle.tree.specs.Walk.{near, over, Gather, walk, walk-related, walk-equation, only-walk, by-number}
 use Rattle.tree.specs.Toward.{toward, toward-more, toward-end, toward-same, depth, depth-more, depth-end}
 use Rattle.tree.specs.Grid.{Grid, parentOf, Treelike, Shaped}
@@ -22,14 +22,14 @@ downward o G i x = o .scale (G .branch i .above) (G .branch i .below) x
 
 -- a current at i, carried to its neighbour b, a child of i or its parent
 unfoldable pub across : {A : Type 0} → Ops A → Grid → ℕ → ℕ → A → A
-across o G b i x = pick (ltb i b) (downward o G b x) (upward o G i x)
+across o G b i x = cond (ltb i b) (downward o G b x) (upward o G i x)
 
 pub across-cases : {A : Type 0} (o : Ops A) (G : Grid) (b i : ℕ) (x : A) (P : A → Type 0)
     → (ltb i b ≡ true → P (downward o G b x)) → (ltb i b ≡ false → P (upward o G i x)) → P (across o G b i x)
 unfolding across
 across-cases o G b i x P parent child = go (ltb i b) refl
   where
-    go : (d : Bool) → ltb i b ≡ d → P (pick d (downward o G b x) (upward o G i x))
+    go : (d : Bool) → ltb i b ≡ d → P (cond d (downward o G b x) (upward o G i x))
     go true q = parent q
     go false q = child q
 
@@ -122,10 +122,6 @@ carried-same {A} o c c′ G H s h b l = from-same b (gathered o c G (G .count)) 
     all zero m = refl
     all (suc n) m = ap₂ (o .add) (all n (omega arith)) (to-same n (c n) m ∙ ap (toRoot o H n) (h n m))
 
-zero-or : (n : ℕ) → (n ≡ 0) ⊎ (0 < n)
-zero-or zero = inl refl
-zero-or (suc n) = inr (omega arith)
-
 -- ---- what holds at a bus and over a branch holds at the end of a way: R d b x y is what is known of x and y at b after d branches
 module _ {A B : Type 0} (o : Ops A) (o′ : Ops B) (G : Grid) (tree : Treelike G) (D : ℕ) (R : ℕ → ℕ → A → B → Type 0)
     (rises : (d b : ℕ) (x : A) (y : B) → d < D → 0 < b → b < G .count → R d b x y → R (suc d) (parentOf G b) (upward o G b x) (upward o′ G b y))
@@ -143,7 +139,7 @@ module _ {A B : Type 0} (o : Ops A) (o′ : Ops B) (G : Grid) (tree : Treelike G
       let t = tree b z m in
       let g = depth-more (parentOf G) b t in
       rw (toRoot-more o G b x t, toRoot-more o′ G b y t) (up n (parentOf G b) (suc d) e _ _ (omega arith) (omega arith) (omega arith) k (rises d b x y (omega arith) z m h)))
-      (zero-or b)
+      (eq-zero-or-pos b)
 
   pub toRoot-related : (b d e : ℕ) (x : A) (y : B) → b < G .count → d + depth (parentOf G) b ≡ e → e ≤ D → R d b x y → R e 0 (toRoot o G b x) (toRoot o′ G b y)
   toRoot-related b d e x y = up b b d e x y (le-refl b)
@@ -163,7 +159,7 @@ module _ {A B : Type 0} (o : Ops A) (o′ : Ops B) (G : Grid) (tree : Treelike G
       let g : suc c ≡ e = omega (arith, depth-more (parentOf G) b t) in
       rw (fromRoot-more o G b x t, fromRoot-more o′ G b y t)
       (rw g at (falls c b _ _ (omega arith) z m (down n (parentOf G b) d c x y (omega arith) (omega arith) refl (omega arith) h))))
-      (zero-or b)
+      (eq-zero-or-pos b)
 
   pub fromRoot-related : (b d e : ℕ) (x : A) (y : B) → b < G .count → d + depth (parentOf G) b ≡ e → e ≤ D → R d 0 x y → R e b (fromRoot o G b x) (fromRoot o′ G b y)
   fromRoot-related b d e x y = down b b d e x y (le-refl b)

@@ -7,24 +7,23 @@ use mathlib.Core.Logic.{inl, inr}
 use native.Mathlib.Omega.{arith}
 use native.Mathlib.Nat.{le-refl, le-trans, le-of-eq, mul-le-mul, mul-pos, mul-suc}
 use lib.Dec.{lit≤}
-use Rattle.algebra.specs.Reading.{identity, from, from-over, read, _⊹_, _⋆_}
+use Rattle.algebra.specs.Reading.{from, from-over, read, _⊹_, _⋆_}
 use Rattle.enclosure.specs.Point.{Point, exact, nothing, sum, times}
-use Rattle.enclosure.specs.Close.{close-scale, close-unscale}
-use Rattle.enclosure.specs.Near.{Near, NearTo}
+use Rattle.enclosure.specs.Near.{spread, Near, Same, near-same, NearTo}
+use Rattle.enclosure.specs.Units.{Sized}
 use Rattle.enclosure.specs.Steps.{parts}
 use Rattle.enclosure.specs.Doubles.{doubles}
-use Rattle.enclosure.specs.Fair.{value, Fine}
-use Rattle.enclosure.specs.Range.{Good, Volts}
+use Rattle.enclosure.specs.Fair.{value, size, Fine}
+use Rattle.enclosure.specs.Range.{Good, Factor, f64-rules}
 use Rattle.enclosure.specs.declared.Complex.{Complex}
-use Rattle.tree.specs.Equal.{equal, _⊛_}
 use Rattle.tree.specs.Toward.{depth}
 use Rattle.tree.specs.Grid.{Grid, parentOf}
 use Rattle.tree.specs.Bound.{Low, low-more, low-sum}
-use Rattle.tree.specs.Held.{Held, held-more, InRange, held-range, held-good, f64-rules}
+use Rattle.tree.specs.Held.{Held, held-more, held-range, held-good}
 use Rattle.tree.specs.Sound.{Sound, Levels, Amperes}
 use Rattle.tree.specs.Sums.{sums}
 use Rattle.tree.specs.Converters.{upward, downward, carried, toRoot, gathered, carriedBy, toRoot-related, fromRoot-related}
-use Rattle.tree.specs.Rooted.{Same, carried-proper, carried-root}
+use Rattle.tree.specs.Rooted.{carried-proper, carried-root}
 
 -- ---- m to the power of d
 abbrev power : ℕ → ℕ → ℕ
@@ -48,11 +47,6 @@ carry-low : (s t d u v p q K g : ℕ) → 9 * (q * u) ≤ 11 * (p * v) → d ≤
 carry-low s t d u v p q K g k l =
     from-over (s ∷ t ∷ d ∷ u ∷ v ∷ p ∷ q ∷ K ∷ g ∷ []) 9 (omega arith) (9 * q ⋆ l ⊹ K * g * (s + t) ⋆ k) (search read depth 40 fits 20000) refl
 
-none-carried : (s t p : ℕ) → s + t ≡ 0 → s * p + t * p ≡ 0
-none-carried zero zero p e = omega arith
-none-carried zero (suc t) p e = absurd (omega arith)
-none-carried (suc s) t p e = absurd (omega arith)
-
 wider-most : (s u d c g h : ℕ) → s * u * g ≤ c * h * d → s * u * (9 * g) ≤ c * (11 * h) * d
 wider-most s u d c g h k = from (s ∷ u ∷ d ∷ c ∷ g ∷ h ∷ []) (9 ⋆ k) (search read depth 40 fits 20000) refl
 
@@ -64,35 +58,13 @@ most-both s t d s′ t′ d′ u c c′ g h k l = from (s ∷ t ∷ d ∷ s′ �
 same-most : (x y : Point) (u c g h N : ℕ) → 0 < y .den → 0 < g → h ≤ N * g → Same x y → (y .re + y .im) * u * g ≤ c * h * y .den → (x .re + x .im) * u ≤ N * c * x .den
 same-most x y u c g h N z w n e k =
     from-over (x .re ∷ x .im ∷ x .den ∷ y .re ∷ y .im ∷ y .den ∷ u ∷ c ∷ g ∷ h ∷ N ∷ []) (y .den * g) (mul-pos z w)
-    (u * g ⋆ (le-of-eq (e .0) ⊹ le-of-eq (e .1)) ⊹ x .den ⋆ k ⊹ c * (x .den * y .den) ⋆ n) (search read depth 40 fits 20000) refl
+    (u * g ⋆ (le-of-eq (e .re) ⊹ le-of-eq (e .im)) ⊹ x .den ⋆ k ⊹ c * (x .den * y .den) ⋆ n) (search read depth 40 fits 20000) refl
 
 under : (s u c g h d E : ℕ) → 0 < u → 0 < g → c * h ≤ E → s * u * g ≤ c * h * d → s ≤ E * d
 under s u c g h d E z w l k = from (s ∷ u ∷ c ∷ g ∷ h ∷ d ∷ E ∷ []) (s ⋆ mul-pos z w ⊹ k ⊹ d ⋆ l) (search read depth 40 fits 20000) refl
 
 twice : (x y z : ℕ) → 0 < z → x ≤ y → x ≤ y * z
 twice x y z p l = from (x ∷ y ∷ z ∷ []) (l ⊹ y ⋆ p) (search read depth 40 fits 20000) refl
-
-third : (a b c : ℕ) → a * (b * c) ≡ c * (b * a)
-third a b c = identity (a ∷ b ∷ c ∷ []) (search read depth 40 fits 20000) refl
-
-crossed : (r d r′ d′ e : ℕ) → r * d′ ≡ r′ * d → d * (r′ * e) ≡ d′ * (r * e)
-crossed r d r′ d′ e h = equal (r ∷ d ∷ r′ ∷ d′ ∷ e ∷ []) (e ⊛ sym h) (search read depth 40 fits 20000) refl
-
--- near a fraction is near the same fraction
-near-same : (M k : ℕ) (x x′ y : Point) → 0 < x .den → Same x x′ → Near M k x′ y → Near M k x y
-near-same M k x x′ y z e h = record {
-  left = z;
-  right = h .right;
-  close =
-      close-unscale M k (x′ .den) _ _ _ _ (h .left)
-      (rw (
-        ← crossed (x .re) (x .den) (x′ .re) (x′ .den) (y .den) (e .0),
-        ← crossed (x .im) (x .den) (x′ .im) (x′ .den) (y .den) (e .1),
-        third (x′ .den) (y .re) (x .den),
-        third (x′ .den) (y .im) (x .den),
-      )
-      (close-scale M k (x .den) _ _ _ _ (h .close)));
-}
 
 sums-most : (c n : ℕ) → sums (λ i. c) n ≡ c * n
 sums-most c zero = omega arith
@@ -182,7 +154,7 @@ module _ (G : Grid) (U : ℕ → ℕ) (sound : Sound G) (levels : Levels G U) wh
   }
 
   low-carried : (d b i p q : ℕ) (x : Point) → 9 * (q * U b) ≤ 11 * (p * U i) → Low (2 ^ 20 * power 2 d * U b) x → Low (2 ^ 20 * power 2 (suc d) * U i) (times p q x)
-  low-carried d b i p q x k (inl e) = inl (none-carried (x .re) (x .im) p e)
+  low-carried d b i p q x k (inl e) = inl (spread p (x .re) (x .im) e)
   low-carried d b i p q x k (inr h) = inr (carry-low (x .re) (x .im) (x .den) (U b) (U i) p q (2 ^ 20) (power 2 d) k h)
 
   widest : 2 ^ 20 * power 2 36 * 2 ^ 19 ≤ 2 ^ 199
@@ -203,7 +175,7 @@ module _ (G : Grid) (U : ℕ → ℕ) (sound : Sound G) (levels : Levels G U) wh
     step-good : (k d b : ℕ) (x : Point) (y : Complex) → d ≤ 36 → k ≤ 1000000 → b < G .count → Most d b c x → Low (2 ^ 20 * power 2 d * U b) x → Held k x y → NearTo value (Good 200 k) parts k x y
     step-good k d b x y l m lb h g n = held-good k x y (omega arith) n (step-low d b x l lb g) (step-high d b x l lb h)
 
-    step-scale : (k d b p q : ℕ) (x : Point) (y : Complex) → d < 36 → k ≤ 100000 → Volts p → Volts q → Step c k d b x y → Held (k + 8 * suc d) (times p q x) (doubles .scale p q y)
+    step-scale : (k d b p q : ℕ) (x : Point) (y : Complex) → d < 36 → k ≤ 100000 → Factor p → Factor q → Step c k d b x y → Held (k + 8 * suc d) (times p q x) (doubles .scale p q y)
     step-scale k d b p q x y l m vp vq h =
         let t = f64-rules (k + 8 * d) (omega arith) .near-scale (k + 8 * d) p q x y vp vq (omega arith) (step-good (k + 8 * d) d b x y (omega arith) (omega arith) (h .placed) (h .most) (h .least) (h .held)) in
         held-more (k + 8 * d + 8) (k + 8 * suc d) _ _ (omega arith) (t .0, t .1 .fine)
@@ -289,14 +261,12 @@ module _ (G : Grid) (U : ℕ → ℕ) (sound : Sound G) (levels : Levels G U) wh
         → Near parts (kₑ + (288 + 4 * G .count)) (carried G b) (value (carriedBy doubles current′ G b)) × Fine (carriedBy doubles current′ G b)
     carried-near b lb =
         let v : (i : ℕ) → 0 < i → i < G .count → (0 < G .branch i .above) × (0 < G .branch i .below) = λ i z m. (sound .volts i z m .0 .0, sound .volts i z m .1 .0) in
-        let h = held-more _ (kₑ + (288 + 4 * G .count)) _ _ (omega arith) (step-carried b lb .held) in (
-          near-same parts (kₑ + (288 + 4 * G .count)) (carried G b) (carriedBy exact (G .current) G b) (value (carriedBy doubles current′ G b))
-              (carried-proper G (sound .tree) v (amperes .proper) b lb) (carried-root G (sound .tree) v (amperes .proper) b lb) (h .0),
-          h .1,
-        )
+        let h = held-more _ (kₑ + (288 + 4 * G .count)) _ _ (omega arith) (step-carried b lb .held) in
+        let e = carried-root G (sound .tree) v (amperes .proper) b lb in
+        (near-same parts (kₑ + (288 + 4 * G .count)) _ (carried G b) _ (carried-proper G (sound .tree) v (amperes .proper) b lb) (record { re = sym (e .re); im = sym (e .im) }) (h .0), h .1)
 
     -- and of a size that can be calculated with
-    pub carried-range : (b : ℕ) → b < G .count → InRange (carriedBy doubles current′ G b)
+    pub carried-range : (b : ℕ) → b < G .count → Sized (2 ^ 200) (size (carriedBy doubles current′ G b))
     carried-range b lb =
         let h = step-carried b lb in
         let w = all-small (G .count) (le-refl (G .count)) in

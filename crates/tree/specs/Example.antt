@@ -2,9 +2,9 @@
 -- Assumes nothing.
 use Prim.Native.Nat.{ℕ, _*_}
 use mathlib.Core.Path.{_≡_, refl}
-use mathlib.Core.Bool.{Bool, true, _&&_}
+use mathlib.Core.Bool.{Bool, true, cond, _&&_}
 use lib.Dec.{eqb}
-use Rattle.enclosure.specs.Point.{pick, Point, inverse, exact}
+use Rattle.enclosure.specs.Point.{Point, inverse, exact}
 use Rattle.tree.specs.Walk.{joined, near}
 use Rattle.tree.specs.Grid.{Grid, through, seen}
 use Rattle.tree.specs.Converters.{across, carriedWithout, carried, toRoot, fromRoot, carriedBy}
@@ -15,8 +15,8 @@ pair above below x m n c d =
     record {
       count = 2;
       branch = λ i. record { parent = 0; z = record { re = 0; im = x; den = 1000 }; above = above; below = below };
-      own = λ b. record { re = 0; im = 1000; den = pick (eqb b 0) m n };
-      current = λ b. record { re = pick (eqb b 0) c d; im = 0; den = 1 };
+      own = λ b. record { re = 0; im = 1000; den = cond (eqb b 0) m n };
+      current = λ b. record { re = cond (eqb b 0) c d; im = 0; den = 1 };
     }
 
 -- a point is 0 + j·a/b, a current is a/b

@@ -1,17 +1,16 @@
--- A feeder at bus 0 feeds every bus: what is seen there is not nothing, and has an imaginary part where the feeder has one ("every
--- machine has X above 0").
+-- A feeder at bus 0 feeds every bus: what is seen there has an imaginary part where the feeder has one ("every machine has X above 0").
 -- Assumes nothing.
 use Prim.Native.Nat.{ℕ, zero, suc, _+_, _*_, _<_}
 use mathlib.Core.Path.{_≡_, refl}
-use mathlib.Core.Bool.{Bool, true, false}
+use mathlib.Core.Bool.{Bool, true, false, cond}
 use mathlib.Core.List.{[], _∷_}
 use native.Mathlib.Omega.{arith}
 use native.Mathlib.Nat.{mul-pos}
 use lib.Dec.{eqb}
 use borrow.Author.Tests.{eqb-true, eqb-false}
 use Rattle.algebra.specs.Reading.{from, read}
-use Rattle.enclosure.specs.Near.{inverse-proper}
-use Rattle.enclosure.specs.Point.{pick, Point, nothing, isNothing, sum, times, turned, inverse, exact}
+use Rattle.enclosure.specs.Near.{norm-pos, inverse-proper}
+use Rattle.enclosure.specs.Point.{Point, nothing, isNothing, sum, times, turned, inverse, exact}
 use Rattle.tree.specs.Walk.{joined, near, near-joined, near-parent, to-parent, to-child, over}
 use Rattle.tree.specs.Grid.{Grid, parentOf, Treelike, through, through-cases, seenBy, seen}
 
@@ -22,11 +21,6 @@ pub record Proper (G : Grid) : Type 0 where
   pub volts : (i : ℕ) → 0 < i → i < G .count → (0 < G .branch i .above) × (0 < G .branch i .below)
 
 -- ---- denominators
-norm-pos : (a b : ℕ) → (a + b ≡ 0 → ⊥) → 0 < a * a + b * b
-norm-pos zero zero h = absurd (h refl)
-norm-pos zero (suc b) h = omega arith
-norm-pos (suc a) b h = omega arith
-
 pub through-proper : (G : Grid) (b i : ℕ) (y : Point) → 0 < through exact (λ j. G .branch j .z) G b i y .den
 through-proper G b i y = through-cases exact (λ j. G .branch j .z) G b i y (λ t. 0 < t .den) (λ e. omega arith) (λ e d. inverse-proper _) (λ e d. inverse-proper _)
 
@@ -34,127 +28,87 @@ over-proper : (joins : ℕ → Bool) (f : ℕ → Point) (x : Point) (m : ℕ) �
 over-proper joins f x zero z h = z
 over-proper joins f x (suc m) z h = go (joins m) (over-proper joins f x m z h)
   where
-    go : (s : Bool) → 0 < over sum joins f x m .den → 0 < pick s (sum (over sum joins f x m) (f m)) (over sum joins f x m) .den
+    go : (s : Bool) → 0 < over sum joins f x m .den → 0 < cond s (sum (over sum joins f x m) (f m)) (over sum joins f x m) .den
     go true q = mul-pos q (h m)
     go false q = q
 
-pub seen-proper : (G : Grid) → Proper G → (b w : ℕ) → b < G .count → 0 < seen G b w .den
-unfolding seen
-seen-proper G p b w l = go (2 * G .count + 1)
+-- ---- a point with an imaginary part
+record Fed (x : Point) : Type 0 where
+  pub proper : 0 < x .den
+  pub reactive : 0 < x .im
+
+fed-left : (x y : Point) → Fed x → 0 < y .den → Fed (sum x y)
+fed-left x y h z = record { proper = mul-pos (h .proper) z; reactive = from (x .im ∷ x .den ∷ y .im ∷ y .den ∷ []) (mul-pos (h .reactive) z) (search read depth 40 fits 20000) refl }
+
+fed-right : (x y : Point) → 0 < x .den → Fed y → Fed (sum x y)
+fed-right x y z h = record { proper = mul-pos z (h .proper); reactive = from (x .im ∷ x .den ∷ y .im ∷ y .den ∷ []) (mul-pos (h .reactive) z) (search read depth 40 fits 20000) refl }
+
+fed-times : (p q : ℕ) (x : Point) → 0 < p → 0 < q → Fed x → Fed (times p q x)
+fed-times p q x hp hq h = record { proper = mul-pos (h .proper) hq; reactive = mul-pos (h .reactive) hp }
+
+fed-some : (x : Point) → Fed x → isNothing x ≡ true → ⊥
+fed-some x h e = omega (arith, eqb-true (x .re + x .im) 0 e, h .reactive)
+
+fed-inverse : (x : Point) → Fed x → Fed (inverse x)
+unfolding inverse
+fed-inverse x h = go (isNothing x) refl
   where
-    go : (fuel : ℕ) → 0 < seenBy exact (λ j. G .branch j .z) (G .own) G fuel b w .den
-    go zero = p .own b l
-    go (suc f) =
-        over-proper (near (parentOf G) b w) (λ i. through exact (λ j. G .branch j .z) G b i (seenBy exact (λ j. G .branch j .z) (G .own) G f i b)) (G .own b) (G .count) (p .own b l)
-        (λ i. through-proper G b i _)
+    go : (s : Bool) → isNothing x ≡ s → Fed (cond s nothing (turned x))
+    go true e = absurd (fed-some x h e)
+    go false e = record { proper = norm-pos (x .re) (x .im) (eqb-false (x .re + x .im) 0 e); reactive = mul-pos (h .reactive) (h .proper) }
 
--- ---- c·re + im is above 0: with c = 1 the point is not nothing, with c = 0 it has an imaginary part
-module _ (c : ℕ) where
-  abbrev Fed : Point → Type 0
-  Fed x = (0 < x .den) × (0 < c * x .re + x .im)
+-- one that is fed feeds the sum
+over-fed : (joins : ℕ → Bool) (f : ℕ → Point) (x : Point) (u m : ℕ) → 0 < x .den → ((i : ℕ) → 0 < f i .den) → joins u ≡ true → Fed (f u) → u < m → Fed (over sum joins f x m)
+over-fed joins f x u zero z h j g l = absurd (omega arith)
+over-fed joins f x u (suc m) z h j g l = go (joins m) (eqb u m) refl refl (over-fed joins f x u m z h j g)
+  where
+    go : (s t : Bool) → joins m ≡ s → eqb u m ≡ t → (u < m → Fed (over sum joins f x m)) → Fed (cond s (sum (over sum joins f x m) (f m)) (over sum joins f x m))
+    go true true e q r = fed-right (over sum joins f x m) (f m) (over-proper joins f x m z h) (rw (eqb-true u m q) at g)
+    go true false e q r = fed-left (over sum joins f x m) (f m) (r (omega (arith, eqb-false u m q))) (h m)
+    go false true e q r = let w : joins m ≡ true = rw (eqb-true u m q) at j in let c : _≡_ {A = ℕ} 0 1 = cc in absurd (omega arith)
+    go false false e q r = r (omega (arith, eqb-false u m q))
 
-  fed-left : (x y : Point) → Fed x → 0 < y .den → Fed (sum x y)
-  fed-left x y h z = (
-    mul-pos (h .0) z,
-    from (c ∷ x .re ∷ x .im ∷ x .den ∷ y .re ∷ y .im ∷ y .den ∷ []) (mul-pos (h .1) z) (search read depth 40 fits 20000) refl,
-  )
+over-start : (joins : ℕ → Bool) (f : ℕ → Point) (x : Point) (m : ℕ) → Fed x → ((i : ℕ) → 0 < f i .den) → Fed (over sum joins f x m)
+over-start joins f x zero g h = g
+over-start joins f x (suc m) g h = go (joins m) (over-start joins f x m g h)
+  where
+    go : (s : Bool) → Fed (over sum joins f x m) → Fed (cond s (sum (over sum joins f x m) (f m)) (over sum joins f x m))
+    go true q = fed-left (over sum joins f x m) (f m) q (h m)
+    go false q = q
 
-  fed-right : (x y : Point) → 0 < x .den → Fed y → Fed (sum x y)
-  fed-right x y z h = (
-    mul-pos z (h .0),
-    from (c ∷ x .re ∷ x .im ∷ x .den ∷ y .re ∷ y .im ∷ y .den ∷ []) (mul-pos (h .1) z) (search read depth 40 fits 20000) refl,
-  )
+module _ (G : Grid) (tree : Treelike G) (proper : Proper G) where
+  fed-through : (b i : ℕ) (y : Point) → b < G .count → i < G .count → joined (parentOf G) b i ≡ true → Fed y → Fed (through exact (λ j. G .branch j .z) G b i y)
+  fed-through b i y lb li e h =
+      through-cases exact (λ j. G .branch j .z) G b i y Fed
+      (λ p. absurd (fed-some y h p))
+      (λ p q.
+      let z = to-parent (parentOf G) b i e q .0 in
+      let v = proper .volts b z lb in
+      fed-inverse _ (fed-right _ _ (proper .branch b z lb) (fed-times _ _ _ (v .1) (v .0) (fed-times _ _ _ (v .1) (v .0) (fed-inverse y h)))))
+      (λ p q.
+      let z = to-child (parentOf G) b i e q .0 in
+      let v = proper .volts i z li in
+      fed-inverse _ (fed-times _ _ _ (v .0) (v .1) (fed-times _ _ _ (v .0) (v .1) (fed-right _ _ (proper .branch i z li) (fed-inverse y h)))))
 
-  fed-times : (p q : ℕ) (x : Point) → 0 < p → 0 < q → Fed x → Fed (times p q x)
-  fed-times p q x hp hq h = (mul-pos (h .0) hq, from (c ∷ p ∷ x .re ∷ x .im ∷ []) (mul-pos (h .1) hp) (search read depth 40 fits 20000) refl)
+  -- from bus 0 down: at b without w, where the way to bus 0 does not lead over w
+  fed-walk : Fed (G .own 0) → (fuel b w : ℕ) → b < G .count → b < fuel → (0 < b → parentOf G b ≡ w → ⊥) → Fed (seenBy exact (λ j. G .branch j .z) (G .own) G fuel b w)
+  fed-walk g zero b w lb lf h = absurd (omega arith)
+  fed-walk g (suc f) zero w lb lf h =
+      over-start (near (parentOf G) 0 w) (λ i. through exact (λ j. G .branch j .z) G 0 i (seenBy exact (λ j. G .branch j .z) (G .own) G f i 0)) (G .own 0) (G .count) g
+      (λ i. through-proper G 0 i _)
+  fed-walk g (suc f) (suc b) w lb lf h =
+      let l = tree (suc b) (omega arith) lb in
+      over-fed (near (parentOf G) (suc b) w) (λ i. through exact (λ j. G .branch j .z) G (suc b) i (seenBy exact (λ j. G .branch j .z) (G .own) G f i (suc b))) (G .own (suc b))
+      (parentOf G (suc b)) (G .count) (proper .own (suc b) lb) (λ i. through-proper G (suc b) i _)
+      (near-parent (parentOf G) (suc b) w l (h (omega arith)))
+      (fed-through (suc b) (parentOf G (suc b)) _ lb (omega arith) (near-joined (parentOf G) (suc b) w (parentOf G (suc b)) (near-parent (parentOf G) (suc b) w l (h (omega arith))) .0)
+      (fed-walk g f (parentOf G (suc b)) (suc b) (omega arith) (omega arith) (λ z e. omega (arith, tree (parentOf G (suc b)) z (omega arith)))))
+      (omega arith)
 
-  fed-some : (x : Point) → Fed x → isNothing x ≡ true → ⊥
-  fed-some x h e = go (x .re) (x .im) (eqb-true (x .re + x .im) 0 e) (h .1)
-    where
-      go : (a b : ℕ) → a + b ≡ 0 → 0 < c * a + b → ⊥
-      go zero zero p q = omega arith
-      go zero (suc b) p q = omega arith
-      go (suc a) b p q = omega arith
-
-  fed-inverse : (x : Point) → Fed x → Fed (inverse x)
-  unfolding inverse
-  fed-inverse x h = go (isNothing x) refl
-    where
-      go : (s : Bool) → isNothing x ≡ s → Fed (pick s nothing (turned x))
-      go true e = absurd (fed-some x h e)
-      go false e = (
-        norm-pos (x .re) (x .im) (eqb-false (x .re + x .im) 0 e),
-        from (c ∷ x .re ∷ x .im ∷ x .den ∷ []) (mul-pos (h .1) (h .0)) (search read depth 40 fits 20000) refl,
-      )
-
-  -- one that is fed feeds the sum
-  over-fed : (joins : ℕ → Bool) (f : ℕ → Point) (x : Point) (u m : ℕ) → 0 < x .den → ((i : ℕ) → 0 < f i .den) → joins u ≡ true → Fed (f u) → u < m → Fed (over sum joins f x m)
-  over-fed joins f x u zero z h j g l = absurd (omega arith)
-  over-fed joins f x u (suc m) z h j g l = go (joins m) (eqb u m) refl refl (over-fed joins f x u m z h j g)
-    where
-      go : (s t : Bool) → joins m ≡ s → eqb u m ≡ t → (u < m → Fed (over sum joins f x m)) → Fed (pick s (sum (over sum joins f x m) (f m)) (over sum joins f x m))
-      go true true e q r = fed-right (over sum joins f x m) (f m) (over-proper joins f x m z h) (rw (eqb-true u m q) at g)
-      go true false e q r = fed-left (over sum joins f x m) (f m) (r (omega (arith, eqb-false u m q))) (h m)
-      go false true e q r = let w : joins m ≡ true = rw (eqb-true u m q) at j in let c : _≡_ {A = ℕ} 0 1 = cc in absurd (omega arith)
-      go false false e q r = r (omega (arith, eqb-false u m q))
-
-  over-start : (joins : ℕ → Bool) (f : ℕ → Point) (x : Point) (m : ℕ) → Fed x → ((i : ℕ) → 0 < f i .den) → Fed (over sum joins f x m)
-  over-start joins f x zero g h = g
-  over-start joins f x (suc m) g h = go (joins m) (over-start joins f x m g h)
-    where
-      go : (s : Bool) → Fed (over sum joins f x m) → Fed (pick s (sum (over sum joins f x m) (f m)) (over sum joins f x m))
-      go true q = fed-left (over sum joins f x m) (f m) q (h m)
-      go false q = q
-
-  module _ (G : Grid) (tree : Treelike G) (proper : Proper G) where
-    fed-through : (b i : ℕ) (y : Point) → b < G .count → i < G .count → joined (parentOf G) b i ≡ true → Fed y → Fed (through exact (λ j. G .branch j .z) G b i y)
-    fed-through b i y lb li e h =
-        through-cases exact (λ j. G .branch j .z) G b i y Fed
-        (λ p. absurd (fed-some y h p))
-        (λ p q.
-        let z = to-parent (parentOf G) b i e q .0 in
-        let v = proper .volts b z lb in
-        fed-inverse _ (fed-right _ _ (proper .branch b z lb) (fed-times _ _ _ (v .1) (v .0) (fed-times _ _ _ (v .1) (v .0) (fed-inverse y h)))))
-        (λ p q.
-        let z = to-child (parentOf G) b i e q .0 in
-        let v = proper .volts i z li in
-        fed-inverse _ (fed-times _ _ _ (v .0) (v .1) (fed-times _ _ _ (v .0) (v .1) (fed-right _ _ (proper .branch i z li) (fed-inverse y h)))))
-
-    -- from bus 0 down: at b without w, where the way to bus 0 does not lead over w
-    fed-walk : Fed (G .own 0) → (fuel b w : ℕ) → b < G .count → b < fuel → (0 < b → parentOf G b ≡ w → ⊥) → Fed (seenBy exact (λ j. G .branch j .z) (G .own) G fuel b w)
-    fed-walk g zero b w lb lf h = absurd (omega arith)
-    fed-walk g (suc f) zero w lb lf h =
-        over-start (near (parentOf G) 0 w) (λ i. through exact (λ j. G .branch j .z) G 0 i (seenBy exact (λ j. G .branch j .z) (G .own) G f i 0)) (G .own 0) (G .count) g
-        (λ i. through-proper G 0 i _)
-    fed-walk g (suc f) (suc b) w lb lf h =
-        let l = tree (suc b) (omega arith) lb in
-        over-fed (near (parentOf G) (suc b) w) (λ i. through exact (λ j. G .branch j .z) G (suc b) i (seenBy exact (λ j. G .branch j .z) (G .own) G f i (suc b))) (G .own (suc b))
-        (parentOf G (suc b)) (G .count) (proper .own (suc b) lb) (λ i. through-proper G (suc b) i _)
-        (near-parent (parentOf G) (suc b) w l (h (omega arith)))
-        (fed-through (suc b) (parentOf G (suc b)) _ lb (omega arith) (near-joined (parentOf G) (suc b) w (parentOf G (suc b)) (near-parent (parentOf G) (suc b) w l (h (omega arith))) .0)
-        (fed-walk g f (parentOf G (suc b)) (suc b) (omega arith) (omega arith) (λ z e. omega (arith, tree (parentOf G (suc b)) z (omega arith)))))
-        (omega arith)
-
-    fed-seen : Fed (G .own 0) → (b : ℕ) → b < G .count → Fed (seen G b b)
-    unfolding seen
-    fed-seen g b lb = fed-walk g (2 * G .count + 1) b b lb (omega arith) (λ z e. omega (arith, tree b z lb))
+  fed-seen : Fed (G .own 0) → (b : ℕ) → b < G .count → Fed (seen G b b)
+  unfolding seen
+  fed-seen g b lb = fed-walk g (2 * G .count + 1) b b lb (omega arith) (λ z e. omega (arith, tree b z lb))
 
 -- EVERY BUS IS FED
-pub seen-some : (G : Grid) → Treelike G → Proper G → 0 < G .own 0 .re + G .own 0 .im → (b : ℕ) → b < G .count → 0 < seen G b b .re + seen G b b .im
-seen-some G t p h b lb = out (seen G b b .re) (seen G b b .im) (fed-seen 1 G t p (p .own 0 (omega arith), put (G .own 0 .re) (G .own 0 .im) h) b lb .1)
-  where
-    put : (a b : ℕ) → 0 < a + b → 0 < 1 * a + b
-    put a b h = omega arith
-
-    out : (a b : ℕ) → 0 < 1 * a + b → 0 < a + b
-    out a b h = omega arith
-
--- and has an imaginary part
 pub seen-reactive : (G : Grid) → Treelike G → Proper G → 0 < G .own 0 .im → (b : ℕ) → b < G .count → 0 < seen G b b .im
-seen-reactive G t p h b lb = out (seen G b b .re) (seen G b b .im) (fed-seen 0 G t p (p .own 0 (omega arith), put (G .own 0 .re) (G .own 0 .im) h) b lb .1)
-  where
-    put : (a b : ℕ) → 0 < b → 0 < 0 * a + b
-    put a b h = omega arith
-
-    out : (a b : ℕ) → 0 < 0 * a + b → 0 < b
-    out a b h = omega arith
+seen-reactive G t p h b lb = fed-seen G t p (record { proper = p .own 0 (omega arith); reactive = h }) b lb .reactive

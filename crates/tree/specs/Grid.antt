@@ -2,10 +2,10 @@
 -- Assumes nothing.
 use Prim.Native.Nat.{ℕ, _+_, _*_, _≤_, _<_}
 use mathlib.Core.Path.{_≡_, refl, sym, _∙_, ap}
-use mathlib.Core.Bool.{Bool, true, false}
+use mathlib.Core.Bool.{Bool, true, false, cond}
 use native.Mathlib.Omega.{arith}
 use lib.Dec.{ltb}
-use Rattle.enclosure.specs.Point.{pick, Point, Ops, exact, sum}
+use Rattle.enclosure.specs.Point.{Point, Ops, exact, sum}
 use Rattle.tree.specs.Walk.{joined, near, over, Gather, walk, by-number, more-fuel, walk-equation, only-walk, walk-same, to-parent, to-child}
 use Rattle.tree.specs.Toward.{depth, by-depth}
 
@@ -37,8 +37,8 @@ square o p q x = o .scale p q (o .scale p q x)
 -- nothing": what is seen at i, seen from its neighbour b. Where i is the parent of b, the branch is that of b, else that of i
 unfoldable pub through : {A : Type 0} → Ops A → (ℕ → A) → Grid → ℕ → ℕ → A → A
 through o z G b i y =
-    pick (o .empty y) (o .none)
-    (pick (ltb i b)
+    cond (o .empty y) (o .none)
+    (cond (ltb i b)
     (o .inverse (o .add (z b) (square o (G .branch b .below) (G .branch b .above) (o .inverse y))))
     (o .inverse (square o (G .branch i .above) (G .branch i .below) (o .add (z i) (o .inverse y)))))
 

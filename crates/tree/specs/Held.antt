@@ -1,19 +1,18 @@
 -- What a calculation in f64 holds: a value near the exact one, of a size that can be calculated with.
 -- Assumes nothing.
-use Prim.Native.Nat.{ℕ, zero, suc, _+_, _*_, _^_, _≤_, _<_}
+use Prim.Native.Nat.{ℕ, _+_, _*_, _^_, _≤_, _<_}
 use mathlib.Core.Path.{_≡_, refl}
 use mathlib.Core.List.{[], _∷_}
 use mathlib.Core.Logic.{_⊎_, inl, inr}
 use native.Mathlib.Omega.{arith}
-use native.Mathlib.Nat.{le-refl, mul-le-mul, mul-pos, sub-self}
+use native.Mathlib.Nat.{le-refl, sub-self}
 use Rattle.algebra.specs.Reading.{from-over, read, _⊹_, _⋆_}
-use Rattle.enclosure.specs.Point.{Point, exact}
-use Rattle.enclosure.specs.Near.{Near, Rules, NearTo, near-more, fair-rules}
-use Rattle.enclosure.specs.Units.{unit, unit-pos}
+use Rattle.enclosure.specs.Point.{Point}
+use Rattle.enclosure.specs.Near.{Near, NearTo, near-more}
+use Rattle.enclosure.specs.Units.{unit, Between, Sized}
 use Rattle.enclosure.specs.Steps.{parts}
-use Rattle.enclosure.specs.Doubles.{doubles}
 use Rattle.enclosure.specs.Fair.{value, size, Fine}
-use Rattle.enclosure.specs.Range.{Between, reach, near-size, Good, Volts, doubles-fair}
+use Rattle.enclosure.specs.Range.{reach, no-size, near-size, Good}
 use Rattle.enclosure.specs.declared.Complex.{Complex}
 use Rattle.tree.specs.Bound.{Low}
 
@@ -24,50 +23,27 @@ Held k x y = Near parts k x (value y) × Fine y
 pub held-more : (j k : ℕ) (x : Point) (y : Complex) → j ≤ k → Held j x y → Held k x y
 held-more j k x y l h = (near-more parts j k x (value y) l (h .0), h .1)
 
--- nothing, or from 2 ^ -200 to 2 ^ 200
-abbrev pub InRange : Complex → Type 0
-InRange y = (size y ≡ 0) ⊎ Between (2 ^ 200) (size y)
-
 -- ---- the range of an f64 that is near an exact value from 1/E to E, with E = 2 ^ 199
-nil : (s d t u : ℕ) → 0 < d → t ≡ 0 → s * d ≤ 2 * (t * u) → s ≡ 0
-nil zero d t u z e h = refl
-nil (suc s) (suc d) zero u z e h = absurd (omega arith)
-nil (suc s) (suc d) (suc t) u z e h = absurd (omega arith)
-
 between : (E t d s u : ℕ) → 0 < d → d ≤ E * t → t ≤ E * d → t * u ≤ 2 * (s * d) → s * d ≤ 2 * (t * u) → (u ≤ s * (E * 2)) × (s ≤ u * (E * 2))
 between E t d s u z low high p q = (
   from-over (E ∷ t ∷ d ∷ s ∷ u ∷ []) d z (u ⋆ low ⊹ E ⋆ p) (search read depth 40 fits 20000) refl,
   from-over (E ∷ t ∷ d ∷ s ∷ u ∷ []) d z (q ⊹ 2 * u ⋆ high) (search read depth 40 fits 20000) refl,
 )
 
-pub held-range : (k : ℕ) (x : Point) (y : Complex) → 4 * k ≤ parts → Held k x y → Low (2 ^ 199) x → x .re + x .im ≤ 2 ^ 199 * x .den → InRange y
+pub held-range : (k : ℕ) (x : Point) (y : Complex) → 4 * k ≤ parts → Held k x y → Low (2 ^ 199) x → x .re + x .im ≤ 2 ^ 199 * x .den → Sized (2 ^ 200) (size y)
 held-range k x y l h low high = go low
   where
     s : ((x .re + x .im) * unit ≤ 2 * (size y * x .den)) × (size y * x .den ≤ 2 * ((x .re + x .im) * unit))
     s = near-size parts k x (value y) (omega arith) l (h .0)
 
-    go : Low (2 ^ 199) x → InRange y
-    go (inl e) = inl (nil (size y) (x .den) (x .re + x .im) unit (h .0 .left) e (s .1))
+    go : Low (2 ^ 199) x → Sized (2 ^ 200) (size y)
+    go (inl e) = inl (no-size (size y) (x .den) (x .re + x .im) unit (h .0 .left) e (s .1))
     go (inr g) = inr (between (2 ^ 199) (x .re + x .im) (x .den) (size y) unit (h .0 .left) g high (s .0) (s .1))
 
--- an f64 near what is not nothing is not 0
-pub held-some : (k : ℕ) (x : Point) (y : Complex) → 4 * k ≤ parts → Held k x y → 0 < x .re + x .im → InRange y → Between (2 ^ 200) (size y)
-held-some k x y l h z (inr g) = g
-held-some k x y l h z (inl e) = absurd (go (x .re + x .im) unit (size y) (x .den) z unit-pos e (near-size parts k x (value y) (omega arith) l (h .0) .0))
-  where
-    go : (t u s d : ℕ) → 0 < t → 0 < u → s ≡ 0 → t * u ≤ 2 * (s * d) → ⊥
-    go t u s d p q e h = let m = mul-pos p q in omega (arith, rw e at h)
-
--- ---- a step of a calculation: the exact value in range makes the f64 good for a further cost of 46, the cost of a branch
+-- ---- a step of a calculation: the exact value in range makes the f64 good for a further cost of 50; a branch costs 46
 pub held-good : (k : ℕ) (x : Point) (y : Complex) → 4 * k ≤ parts → Held k x y → Low (2 ^ 199) x → x .re + x .im ≤ 2 ^ 199 * x .den → NearTo value (Good 200 k) parts k x y
 held-good k x y l h low high = (h .0, record { fine = h .1; range = rw (sub-self k) (go (held-range k x y l h low high)) })
   where
-    go : InRange y → (size y ≡ 0) ⊎ ((k ≤ k) × Between (reach 200 0) (size y))
+    go : Sized (2 ^ 200) (size y) → (size y ≡ 0) ⊎ ((k ≤ k) × Between (reach 200 0) (size y))
     go (inl e) = inl e
     go (inr g) = inr (le-refl k, g)
-
-products : (k : ℕ) → k ≤ 1000000 → 2 * ((k + 46) * (k + 46 + 1)) ≤ 1 * parts
-products k l = let p : k + 46 ≤ 1000046 = omega arith in let q : k + 46 + 1 ≤ 1000047 = omega arith in omega (arith, mul-le-mul p q)
-
-pub f64-rules : (k : ℕ) → k ≤ 1000000 → Rules exact doubles (NearTo value (Good 200 k) parts) Volts (k + 46) 4 13 8
-f64-rules k l = fair-rules doubles value (Good 200 k) Volts parts (k + 46) 2 6 4 1 (omega arith) (omega arith) (omega arith) (products k l) (doubles-fair 200 k (k + 46) (omega arith))

@@ -2,12 +2,11 @@
 -- Assumes nothing.
 use Prim.Native.Nat.{ℕ, zero, suc, _+_, _*_, _≤_, _<_}
 use mathlib.Core.Path.{_≡_, refl}
-use mathlib.Core.Bool.{Bool, true, false}
+use mathlib.Core.Bool.{Bool, true, false, cond}
 use mathlib.Core.List.{List, [], _∷_}
 use native.Mathlib.Omega.{arith}
 use native.Mathlib.Nat.{mul-suc}
 use lib.ListN.{length, getD}
-use Rattle.enclosure.specs.Point.{pick}
 use Rattle.tree.specs.Walk.{joined, near, near-joined, over, Gather, walk}
 use Rattle.tree.specs.Sums.{sumOf}
 
@@ -18,7 +17,7 @@ module _ {A B : Type 0} (add : A → A → A) (add′ : B → B → B) (In : ℕ
     (more : (j k : ℕ) (x : A) (y : B) → j ≤ k → R j x y → R k x y)
     (near-add : (k : ℕ) (x x′ : A) (y y′ : B) → k ≤ limit → In J x → In J x′ → R k x y → R k x′ y′ → R (k + a) (add x x′) (add′ y y′)) where
   one : (j k k₀ : ℕ) (x x′ : A) (y y′ : B) (s : Bool) → k₀ ≤ k → k ≤ limit → j + e ≤ J → In j x × R k x y → (s ≡ true → In e x′ × R k₀ x′ y′)
-      → In (j + e) (pick s (add x x′) x) × R (k + a) (pick s (add x x′) x) (pick s (add′ y y′) y)
+      → In (j + e) (cond s (add x x′) x) × R (k + a) (cond s (add x x′) x) (cond s (add′ y y′) y)
   one j k k₀ x x′ y y′ true m l u h g = (
     in-add j e x x′ (h .0) (g refl .0),
     near-add k x x′ y y′ l (in-more j J x (omega arith) (h .0)) (in-more e J x′ (omega arith) (g refl .0)) (h .1) (more k₀ k x′ y′ m (g refl .1)),

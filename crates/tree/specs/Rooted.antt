@@ -2,14 +2,15 @@
 -- Assumes nothing.
 use Prim.Native.Nat.{ℕ, zero, suc, _+_, _*_, _≤_, _<_}
 use mathlib.Core.Path.{_≡_, refl, sym, _∙_, ap}
-use mathlib.Core.Bool.{Bool, true, false}
+use mathlib.Core.Bool.{Bool, true, false, cond}
 use mathlib.Core.List.{[], _∷_}
 use native.Mathlib.Omega.{arith}
 use native.Mathlib.Nat.{le-refl, mul-pos, mul-assoc, mul-right-comm}
 use lib.Dec.{ltb, eqb}
 use borrow.Author.Tests.{ltb-true, eqb-true, eqb-false}
 use Rattle.algebra.specs.Reading.{identity, read}
-use Rattle.enclosure.specs.Point.{pick, Point, exact, sum, times}
+use Rattle.enclosure.specs.Point.{Point, exact, sum, times}
+use Rattle.enclosure.specs.Near.{Same}
 use Rattle.tree.specs.Equal.{equal, equal-over, _⊕_, _⊛_}
 use Rattle.tree.specs.Walk.{joined, to-parent, to-child, walk-related}
 use Rattle.tree.specs.Toward.{toward, toward-more, depth}
@@ -34,7 +35,7 @@ along-pos p v n h b = go b b
     go zero b l = omega arith
     go (suc f) b l = step (ltb (p b) b) refl (go f (p b))
       where
-        step : (t : Bool) → ltb (p b) b ≡ t → (p b < n → 0 < toward p (λ i x. v i * x) 1 f (p b)) → 0 < pick t (v b * toward p (λ i x. v i * x) 1 f (p b)) 1
+        step : (t : Bool) → ltb (p b) b ≡ t → (p b < n → 0 < toward p (λ i x. v i * x) 1 f (p b)) → 0 < cond t (v b * toward p (λ i x. v i * x) 1 f (p b)) 1
         step true e r = let m = ltb-true (p b) b e in mul-pos (h b (omega arith) l) (r (omega arith))
         step false e r = omega arith
 
@@ -50,14 +51,14 @@ product-pos d (suc n) h = mul-pos (product-pos d n (λ i l. h i (omega arith))) 
 
 others : (ℕ → ℕ) → ℕ → ℕ → ℕ
 others d zero i = 1
-others d (suc n) i = pick (eqb i n) (product d n) (others d n i * d n)
+others d (suc n) i = cond (eqb i n) (product d n) (others d n i * d n)
 
 others-is : (d : ℕ → ℕ) (n i : ℕ) → i < n → others d n i * d i ≡ product d n
 unfolding product others
 others-is d zero i l = absurd (omega arith)
 others-is d (suc n) i l = go (eqb i n) refl (others-is d n i)
   where
-    go : (s : Bool) → eqb i n ≡ s → (i < n → others d n i * d i ≡ product d n) → pick s (product d n) (others d n i * d n) * d i ≡ product d n * d n
+    go : (s : Bool) → eqb i n ≡ s → (i < n → others d n i * d i ≡ product d n) → cond s (product d n) (others d n i * d n) * d i ≡ product d n * d n
     go true e r = ap (λ (j : ℕ). product d n * d j) (eqb-true i n e)
     go false e r = mul-right-comm (others d n i) (d n) (d i) ∙ ap (λ (x : ℕ). x * d n) (r (omega (arith, eqb-false i n e)))
 
@@ -185,10 +186,6 @@ module _ (G : Grid) (tree : Treelike G) (volts : (i : ℕ) → 0 < i → i < G .
       at-same c e Q (belows b) (aboves b) (carried G b) (carriedBy exact (G .current) G b) (sums share (G .count))
       (mul-pos (belows-pos b l) (product-pos under (G .count) (λ i m. mul-pos (proper i m) (aboves-pos i m)))) (at-carried b l) (at-rooted b l)
 
--- the same as a fraction
-abbrev pub Same : Point → Point → Type 0
-Same x y = (x .re * y .den ≡ y .re * x .den) × (x .im * y .den ≡ y .im * x .den)
-
 module _ (G : Grid) (tree : Treelike G) (volts : (i : ℕ) → 0 < i → i < G .count → (0 < G .branch i .above) × (0 < G .branch i .below))
     (proper : (i : ℕ) → i < G .count → 0 < G .current i .den) where
   pub carried-proper : (b : ℕ) → b < G .count → 0 < carried G b .den
@@ -197,10 +194,10 @@ module _ (G : Grid) (tree : Treelike G) (volts : (i : ℕ) → 0 < i → i < G .
 
   -- ONE PASS SERVES: the walk's sum is that of the currents carried to bus 0, carried on to b
   pub carried-root : (b : ℕ) → b < G .count → Same (carried G b) (carriedBy exact (G .current) G b)
-  carried-root b l = (
-    real (carried G b) (carriedBy exact (G .current) G b) (same-part G tree volts proper 1 0 b l),
-    imaginary (carried G b) (carriedBy exact (G .current) G b) (same-part G tree volts proper 0 1 b l),
-  )
+  carried-root b l = record {
+    re = real (carried G b) (carriedBy exact (G .current) G b) (same-part G tree volts proper 1 0 b l);
+    im = imaginary (carried G b) (carriedBy exact (G .current) G b) (same-part G tree volts proper 0 1 b l);
+  }
     where
       real : (x y : Point) → (1 * x .re + 0 * x .im) * y .den ≡ (1 * y .re + 0 * y .im) * x .den → x .re * y .den ≡ y .re * x .den
       real x y h = equal (x .re ∷ x .im ∷ x .den ∷ y .re ∷ y .im ∷ y .den ∷ []) h (search read depth 40 fits 20000) refl

@@ -2,28 +2,28 @@
 -- Assumes nothing.
 use Prim.Native.Nat.{ℕ, zero, suc, _+_, _*_, _^_, _≤_, _<_}
 use mathlib.Core.Path.{_≡_, refl}
-use mathlib.Core.Bool.{Bool, true, false}
+use mathlib.Core.Bool.{Bool, true, false, cond}
 use mathlib.Core.List.{[], _∷_}
 use mathlib.Core.Logic.{inl, inr}
 use native.Mathlib.Omega.{arith}
 use native.Mathlib.Nat.{le-refl, le-trans, le-of-lt, mul-le-mul, mul-le-mul-right, mul-pos}
 use lib.Dec.{ltb, lit≤}
 use Rattle.algebra.specs.Reading.{poly, from, from-over, read, _⊹_, _⋆_}
-use Rattle.enclosure.specs.Point.{pick, Point, sum, inverse, exact}
+use Rattle.enclosure.specs.Point.{Point, sum, inverse, exact}
 use Rattle.enclosure.specs.Near.{Near, NearTo}
 use Rattle.enclosure.specs.Steps.{parts}
 use Rattle.enclosure.specs.Doubles.{doubles}
-use Rattle.enclosure.specs.Fair.{value, size, Fine}
-use Rattle.enclosure.specs.Range.{Between, Good, Volts}
+use Rattle.enclosure.specs.Fair.{value, Fine}
+use Rattle.enclosure.specs.Range.{Good, Factor, f64-rules}
 use Rattle.enclosure.specs.declared.Complex.{Complex}
 use Rattle.tree.specs.Walk.{joined, to-parent, to-child}
 use Rattle.tree.specs.Grid.{Grid, parentOf, square, through, through-cases, admittances, seenBy, seen, seen-37}
-use Rattle.tree.specs.Bound.{AtMost, AtLeast, Low, most-more, most-sum, low-more, low-sum, low-inverse, inverse-low, referred, through-most}
-use Rattle.tree.specs.Fed.{through-proper, seen-some}
+use Rattle.tree.specs.Bound.{AtMost, AtLeast, Low, most-more, most-under, most-sum, low-more, low-sum, low-inverse, inverse-low, referred, through-most}
+use Rattle.tree.specs.Fed.{through-proper}
 use Rattle.tree.specs.Inside.{walk-inside}
 use Rattle.tree.specs.Through.{through-near}
-use Rattle.tree.specs.Held.{Held, held-more, InRange, held-range, held-some, held-good, f64-rules}
-use Rattle.tree.specs.Sound.{Sound, Levels, Plain, sound-proper}
+use Rattle.tree.specs.Held.{Held, held-more, held-good}
+use Rattle.tree.specs.Sound.{Sound, Levels, Plain}
 
 -- ---- what the proof needs of the elements: every impedance is at least 2/P, referred or not, and at most ζ·Un²; what a bus has itself
 -- is at most S, and nothing or at least 1/(ζ·Un²)
@@ -66,10 +66,6 @@ together ζ K u = poly (ζ ∷ K ∷ u ∷ []) (search read depth 40 fits 20000)
 
 twice : (K u : ℕ) (x : Point) → AtMost 1 (2 * (K * u)) x → AtMost 1 (2 * K * u) x
 twice K u x h = most-more 1 (2 * (K * u)) (2 * K * u) x (poly (K ∷ u ∷ []) (search read depth 40 fits 20000) refl) h
-
--- a bound that is below another
-upper : (j d s E : ℕ) → j ≤ E → s * 1 ≤ j * d → s ≤ E * d
-upper j d s E l h = from (j ∷ d ∷ s ∷ E ∷ []) (h ⊹ d ⋆ l) (search read depth 40 fits 20000) refl
 
 longest : (P E d s : ℕ) → P ≤ E → 2 * (1 * d) ≤ P * s → d ≤ E * s
 longest P E d s l h = from (P ∷ E ∷ d ∷ s ∷ []) (h ⊹ s ⋆ l) (search read depth 40 fits 20000) refl
@@ -137,7 +133,7 @@ module _ (G : Grid) (U : ℕ → ℕ) (levels : Levels G U) (P S ζ : ℕ) (r : 
         low-more _ (2 ^ 199) x (le-trans (mul-le-mul (far-mono ζ f 37 lf) (mul-le-mul v v)) wide) (h .least)
 
     in-high : (f b : ℕ) (x : Point) → In f b (S + P * G .count) x → x .re + x .im ≤ 2 ^ 199 * x .den
-    in-high f b x h = upper (S + P * G .count) (x .den) (x .re + x .im) (2 ^ 199) tall (h .most)
+    in-high f b x h = most-under 1 (S + P * G .count) (2 ^ 199) x (omega arith) tall (h .most)
 
     in-good : (f b k : ℕ) (x : Point) (y : Complex) → f ≤ 37 → b < G .count → k ≤ 1000000 → In f b (S + P * G .count) x → Held k x y → NearTo value (Good 200 k) parts k x y
     in-good f b k x y lf lb l h g = held-good k x y (omega arith) g (in-low f b _ x lf lb h) (in-high f b x h)
@@ -156,7 +152,7 @@ module _ (G : Grid) (U : ℕ → ℕ) (levels : Levels G U) (P S ζ : ℕ) (r : 
           let v = levels .nominal i li .1 in
           held-good k _ _ (omega arith) (held-more kₑ k _ _ m (near-z i p li))
           (inr (longest P (2 ^ 199) _ _ (one-of P S (G .count) (2 ^ 199) (omega arith) tall) (r .long i p li)))
-          (upper (ζ * (U i * U i)) _ _ (2 ^ 199) (le-trans (mul-le-mul (far-least ζ 37) (mul-le-mul v v)) wide) (r .short i p li))
+          (most-under 1 (ζ * (U i * U i)) (2 ^ 199) _ (omega arith) (le-trans (mul-le-mul (far-least ζ 37) (mul-le-mul v v)) wide) (r .short i p li))
 
       seen-held : (b w : ℕ) → b < G .count → kₑ + (46 + 4 * G .count) * 37 ≤ 1000000 → Held (kₑ + (46 + 4 * G .count) * 37) (seen G b w) (seenBy doubles z′ own′ G 37 b w)
       seen-held b w lb l =
@@ -167,9 +163,9 @@ module _ (G : Grid) (U : ℕ → ℕ) (levels : Levels G U) (P S ζ : ℕ) (r : 
           (λ f c i k x y lf lc li e m q h g. (
             in-through f c i _ x lc li e h,
             (let t =
-                through-near exact doubles (NearTo value (Good 200 k) parts) Volts (k + 46) 4 13 8 (f64-rules k (omega arith)) G (λ j. G .branch j .z) z′ k
+                through-near exact doubles (NearTo value (Good 200 k) parts) Factor (k + 50) 4 13 8 (f64-rules k (omega arith)) G (λ j. G .branch j .z) z′ k
                 (λ j p lj. good-z k j m (omega arith) p lj) (sound .volts)
-                k c i x y lc li e (le-refl k) (le-refl (k + 46)) (in-good f i k x y (omega arith) li (omega arith) h g) in
+                k c i x y lc li e (le-refl k) (omega arith) (in-good f i k x y (omega arith) li (omega arith) h g) in
                 (t .0, t .1 .fine)),
           ))
           37 b w (le-refl 37) lb l .1)
@@ -199,7 +195,7 @@ module _ (G : Grid) (U : ℕ → ℕ) (sound : Sound G) (levels : Levels G U) (p
   apart : (b i : ℕ) → b < G .count → i < G .count → joined (parentOf G) b i ≡ true → AtLeast 1 (2 ^ 180) (referred G b i)
   apart b i lb li e = go (ltb i b) refl
     where
-      go : (d : Bool) → ltb i b ≡ d → AtLeast 1 (2 ^ 180) (pick d (G .branch b .z) (square exact (G .branch i .above) (G .branch i .below) (G .branch i .z)))
+      go : (d : Bool) → ltb i b ≡ d → AtLeast 1 (2 ^ 180) (cond d (G .branch b .z) (square exact (G .branch i .above) (G .branch i .below) (G .branch i .z)))
       go true q =
           let h = plain .branch b (to-parent (parentOf G) b i e q .0) lb in
           least-own (G .branch b .z .re) (G .branch b .z .im) (G .branch b .z .den) (h .some) (h .fine)
@@ -240,15 +236,3 @@ module _ (G : Grid) (U : ℕ → ℕ) (sound : Sound G) (levels : Levels G U) (p
         → Near parts (kₑ + (46 + 4 * G .count) * 37) (seen G b w) (value (seenBy doubles z′ own′ G 37 b w)) × Fine (seenBy doubles z′ own′ G 37 b w)
     seen-near b w lb =
         seen-held G U levels (2 ^ 180) (2 ^ 108) (2 ^ 60) ranged wide (tall-128 (G .count) few) sound z′ own′ kₑ near-z near-own b w lb (room kₑ (G .count) l few)
-
-    -- and of a size that can be calculated with
-    pub seen-range : (b w : ℕ) → b < G .count → InRange (seenBy doubles z′ own′ G 37 b w)
-    seen-range b w lb =
-        let m = room kₑ (G .count) l few in
-        held-range (kₑ + (46 + 4 * G .count) * 37) (seen G b w) _ (omega arith) (seen-near b w lb) (seen-low b w lb) (seen-high b w lb)
-
-    -- and not 0, where a feeder stands at bus 0
-    pub seen-fed : 0 < G .own 0 .re + G .own 0 .im → (b : ℕ) → b < G .count → Between (2 ^ 200) (size (seenBy doubles z′ own′ G 37 b b))
-    seen-fed h b lb =
-        let m = room kₑ (G .count) l few in
-        held-some (kₑ + (46 + 4 * G .count) * 37) (seen G b b) _ (omega arith) (seen-near b b lb) (seen-some G (sound .tree) (sound-proper G sound plain) h b lb) (seen-range b b lb)

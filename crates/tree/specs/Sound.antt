@@ -7,7 +7,7 @@ use mathlib.Core.List.{[], _∷_}
 use native.Mathlib.Omega.{arith}
 use Rattle.algebra.specs.Reading.{from-over, read, _⊹_, _⋆_}
 use Rattle.enclosure.specs.Point.{Point}
-use Rattle.enclosure.specs.Range.{Volts}
+use Rattle.enclosure.specs.Range.{Factor}
 use Rattle.tree.specs.Toward.{depth}
 use Rattle.tree.specs.Grid.{Grid, parentOf, Treelike}
 use Rattle.tree.specs.Bound.{Low}
@@ -17,7 +17,7 @@ use Rattle.tree.specs.Fed.{Proper}
 pub record Sound (G : Grid) : Type 0 where
   pub tree : Treelike G
   pub shallow : (i : ℕ) → i < G .count → depth (parentOf G) i ≤ 18
-  pub volts : (i : ℕ) → 0 < i → i < G .count → Volts (G .branch i .above) × Volts (G .branch i .below)
+  pub volts : (i : ℕ) → 0 < i → i < G .count → Factor (G .branch i .above) × Factor (G .branch i .below)
 
 -- U gives the nominal volts. "A line joins equal nominal voltages. A rated voltage lies from 9/10 to 11/10 of its bus's Un": a rated
 -- ratio is within 11/9 of the nominal one

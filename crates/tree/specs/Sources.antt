@@ -3,32 +3,28 @@
 use Prim.Native.Nat.{ℕ, _+_, _*_, _^_, _≤_, _<_}
 use mathlib.Core.Path.{_≡_, refl}
 use mathlib.Core.Bool.{Bool, true}
-use mathlib.Core.List.{List, [], _∷_}
+use mathlib.Core.List.{List}
 use mathlib.Core.Logic.{inl}
 use native.Mathlib.Omega.{arith}
 use native.Mathlib.Nat.{le-refl, mul-pos}
 use lib.ListN.{length, getD}
-use Rattle.algebra.specs.Reading.{from, read, _⊹_, _⋆_}
 use Rattle.enclosure.specs.Point.{Point, nothing, sum}
 use Rattle.enclosure.specs.Near.{NearTo}
 use Rattle.enclosure.specs.Steps.{parts}
 use Rattle.enclosure.specs.Doubles.{doubles}
 use Rattle.enclosure.specs.Fair.{value}
-use Rattle.enclosure.specs.Range.{Good}
+use Rattle.enclosure.specs.Range.{Good, f64-rules}
 use Rattle.enclosure.specs.declared.Complex.{Complex}
 use Rattle.tree.specs.Sums.{sumOf}
-use Rattle.tree.specs.Bound.{AtMost, Low, most-more, most-sum, low-more, low-sum}
+use Rattle.tree.specs.Bound.{AtMost, Low, most-more, most-sum, low-more, low-sum, most-under}
 use Rattle.tree.specs.Inside.{sum-inside}
-use Rattle.tree.specs.Held.{Held, held-more, held-good, f64-rules}
+use Rattle.tree.specs.Held.{Held, held-more, held-good}
 
 -- nothing or at least 1/K, and at most c/Q: an admittance with Q = 1, a current with Q its bus's nominal volts
 pub record Bounded (K Q c : ℕ) (x : Point) : Type 0 where
   pub proper : 0 < x .den
   pub least : Low K x
   pub most : AtMost Q c x
-
-under : (s d Q j E : ℕ) → 0 < Q → j ≤ E → s * Q ≤ j * d → s ≤ E * d
-under s d Q j E z l h = from (s ∷ d ∷ Q ∷ j ∷ E ∷ []) (s ⋆ z ⊹ h ⊹ d ⋆ l) (search read depth 40 fits 20000) refl
 
 -- THE SUM OVER A LIST is as near as its elements and 4 parts in 2 ^ 53 for each
 pub sum-held : {S : Type 0} (t : S → Bool) (y : S → Point) (y′ : S → Complex) (d : S) (l : List S) (K Q c kₑ : ℕ)
@@ -46,7 +42,7 @@ sum-held {S} t y y′ d l K Q c kₑ z wide tall room h =
     add i j x x′ g g′ = record { proper = mul-pos (g .proper) (g′ .proper); least = low-sum K x x′ (g .least) (g′ .least); most = most-sum Q i j x x′ (g .most) (g′ .most) }
 
     good : (k : ℕ) (x : Point) (v : Complex) → k ≤ 1000000 → Bounded K Q (c * length l) x → Held k x v → NearTo value (Good 200 k) parts k x v
-    good k x v m g n = held-good k x v (omega arith) n (low-more K (2 ^ 199) x wide (g .least)) (under (x .re + x .im) (x .den) Q (c * length l) (2 ^ 199) z tall (g .most))
+    good k x v m g n = held-good k x v (omega arith) n (low-more K (2 ^ 199) x wide (g .least)) (most-under Q (c * length l) (2 ^ 199) x z tall (g .most))
 
     near-add : (k : ℕ) (x x′ : Point) (v v′ : Complex) → k ≤ 1000000 → Bounded K Q (c * length l) x → Bounded K Q (c * length l) x′ → Held k x v → Held k x′ v′ → Held (k + 4) (sum x x′) (doubles .add v v′)
     near-add k x x′ v v′ m g g′ n n′ = let r = f64-rules k m .near-add k x x′ v v′ (omega arith) (good k x v m g n) (good k x′ v′ m g′ n′) in (r .0, r .1 .fine)

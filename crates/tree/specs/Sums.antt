@@ -2,17 +2,16 @@
 -- Assumes nothing.
 use Prim.Native.Nat.{ℕ, zero, suc, _+_, _<_}
 use mathlib.Core.Path.{_≡_, refl, sym, _∙_, ap}
-use mathlib.Core.Bool.{Bool, true, false}
+use mathlib.Core.Bool.{Bool, true, false, cond}
 use mathlib.Core.List.{List, [], _∷_}
 use native.Mathlib.Omega.{arith}
 use native.Mathlib.Numerals.{add-one}
 use lib.ListN.{length, getD, take}
-use Rattle.enclosure.specs.Point.{pick}
 
 -- z, and y of each element of a list that passes a test
 abbrev pub sumOf : {S A : Type 0} → (A → A → A) → (S → Bool) → (S → A) → A → List S → A
 sumOf add t y z [] = z
-sumOf add t y z (s ∷ l) = sumOf add t y (pick (t s) (add z (y s)) z) l
+sumOf add t y z (s ∷ l) = sumOf add t y (cond (t s) (add z (y s)) z) l
 
 -- the sum of f over the numbers below n
 abbrev pub sums : (ℕ → ℕ) → ℕ → ℕ
@@ -22,7 +21,7 @@ sums f (suc n) = sums f n + f n
 -- the elements that pass a test
 abbrev pub filtered : {S : Type 0} → (S → Bool) → List S → List S
 filtered f [] = []
-filtered f (s ∷ l) = pick (f s) (s ∷ filtered f l) (filtered f l)
+filtered f (s ∷ l) = cond (f s) (s ∷ filtered f l) (filtered f l)
 
 -- elements that fail a test which every counted element passes may as well be left out
 sum-filtered : {S A : Type 0} (add : A → A → A) (t f : S → Bool) → ((s : S) → t s ≡ true → f s ≡ true) → (y : S → A) (z : A) (l : List S)
@@ -31,8 +30,8 @@ sum-filtered add t f h y z [] = refl
 sum-filtered {S} {A} add t f h y z (s ∷ l) = go (f s) (t s) refl refl (λ x. sum-filtered add t f h y x l)
   where
     go : (c d : Bool) → f s ≡ c → t s ≡ d → ((x : A) → sumOf add t y x l ≡ sumOf add t y x (filtered f l))
-        → sumOf add t y (pick d (add z (y s)) z) l ≡ sumOf add t y z (pick c (s ∷ filtered f l) (filtered f l))
-    go true d e q r = r (pick d (add z (y s)) z) ∙ ap (λ (c : Bool). sumOf add t y (pick c (add z (y s)) z) (filtered f l)) (sym q)
+        → sumOf add t y (cond d (add z (y s)) z) l ≡ sumOf add t y z (cond c (s ∷ filtered f l) (filtered f l))
+    go true d e q r = r (cond d (add z (y s)) z) ∙ ap (λ (c : Bool). sumOf add t y (cond c (add z (y s)) z) (filtered f l)) (sym q)
     go false true e q r = let w : true ≡ false = sym (h s q) ∙ e in let c : _≡_ {A = ℕ} 0 1 = cc in absurd (omega arith)
     go false false e q r = r z
 
@@ -43,11 +42,11 @@ sum-alike add t f h y z l l′ e = sum-filtered add t f h y z l ∙ ap (sumOf ad
 
 -- ---- for code: one more element in a loop
 pub sum-more : {S A : Type 0} (add : A → A → A) (t : S → Bool) (y : S → A) (z : A) (l : List S) (d : S) (i : ℕ) → i < length l
-    → sumOf add t y z (take (i + 1) l) ≡ pick (t (getD l i d)) (add (sumOf add t y z (take i l)) (y (getD l i d))) (sumOf add t y z (take i l))
+    → sumOf add t y z (take (i + 1) l) ≡ cond (t (getD l i d)) (add (sumOf add t y z (take i l)) (y (getD l i d))) (sumOf add t y z (take i l))
 sum-more {S} {A} add t y z l d i h = rw add-one (go z l i h)
   where
     go : (z : A) (l : List S) (i : ℕ) → i < length l
-        → sumOf add t y z (take (suc i) l) ≡ pick (t (getD l i d)) (add (sumOf add t y z (take i l)) (y (getD l i d))) (sumOf add t y z (take i l))
+        → sumOf add t y z (take (suc i) l) ≡ cond (t (getD l i d)) (add (sumOf add t y z (take i l)) (y (getD l i d))) (sumOf add t y z (take i l))
     go z [] i h = absurd (omega arith)
     go z (s ∷ l) zero h = refl
-    go z (s ∷ l) (suc i) h = go (pick (t s) (add z (y s)) z) l i (omega arith)
+    go z (s ∷ l) (suc i) h = go (cond (t s) (add z (y s)) z) l i (omega arith)

@@ -9,13 +9,13 @@ use Rattle.enclosure.specs.Near.{Rules}
 use Rattle.tree.specs.Walk.{joined, to-parent, to-child}
 use Rattle.tree.specs.Grid.{Grid, parentOf, square, through, through-nothing, through-parent, through-child, through-cases}
 
-module _ {A B : Type 0} (o : Ops A) (o′ : Ops B) (R : ℕ → A → B → Type 0) (Volts : ℕ → Type 0) (limit a v s : ℕ) (rules : Rules o o′ R Volts limit a v s) where
-  square-near : (k p q : ℕ) (x : A) (y : B) → Volts p → Volts q → k + s ≤ limit → R k x y → R (k + s + s) (square o p q x) (square o′ p q y)
+module _ {A B : Type 0} (o : Ops A) (o′ : Ops B) (R : ℕ → A → B → Type 0) (Factor : ℕ → Type 0) (limit a v s : ℕ) (rules : Rules o o′ R Factor limit a v s) where
+  square-near : (k p q : ℕ) (x : A) (y : B) → Factor p → Factor q → k + s ≤ limit → R k x y → R (k + s + s) (square o p q x) (square o′ p q y)
   square-near k p q x y hp hq l r = rules .near-scale (k + s) p q _ _ hp hq l (rules .near-scale k p q x y hp hq (omega arith) r)
 
   module _ (G : Grid) (z : ℕ → A) (z′ : ℕ → B) (k₀ : ℕ)
       (near-z : (i : ℕ) → 0 < i → i < G .count → R k₀ (z i) (z′ i))
-      (volts : (i : ℕ) → 0 < i → i < G .count → Volts (G .branch i .above) × Volts (G .branch i .below)) where
+      (volts : (i : ℕ) → 0 < i → i < G .count → Factor (G .branch i .above) × Factor (G .branch i .below)) where
     -- two inverses, a ratio twice, a sum
     pub through-near : (k b i : ℕ) (x : A) (x′ : B) → b < G .count → i < G .count → joined (parentOf G) b i ≡ true → k₀ ≤ k → k + (v + v + s + s + a) ≤ limit → R k x x′
         → R (k + (v + v + s + s + a)) (through o z G b i x) (through o′ z′ G b i x′)

@@ -2,12 +2,11 @@
 -- Assumes nothing.
 use Prim.Native.Nat.{ℕ, zero, suc, _+_, _*_, _≤_, _<_}
 use mathlib.Core.Path.{_≡_, refl, sym, _∙_, ap, ap₂}
-use mathlib.Core.Bool.{Bool, true, false}
+use mathlib.Core.Bool.{Bool, true, false, cond}
 use mathlib.Core.Logic.{⊎-elim}
 use native.Mathlib.Omega.{arith}
 use lib.Dec.{ltb, eqb}
 use borrow.Author.Tests.{ltb-true, ltb-false, lt-ltb, le-ltb, eqb-true, eqb-false, eq-eqb, ne-eqb}
-use Rattle.enclosure.specs.Point.{pick}
 use Rattle.tree.specs.Sums.{sums}
 use Rattle.tree.specs.Walk.{joined, near, over, Gather, walk, joined-cases, near-joined, near-parent, over-same, Tree, Enough, enough, more-fuel, by-number, enough-not-zero, enough-next}
 
@@ -18,7 +17,7 @@ over-none : (joins : ℕ → Bool) (g : ℕ → ℕ) (z m : ℕ) → ((i : ℕ) 
 over-none joins g z zero h = refl
 over-none joins g z (suc m) h = go (joins m) refl (over-none joins g z m (λ i l. h i (omega arith)))
   where
-    go : (s : Bool) → joins m ≡ s → over _+_ joins g z m ≡ z → pick s (over _+_ joins g z m + g m) (over _+_ joins g z m) ≡ z
+    go : (s : Bool) → joins m ≡ s → over _+_ joins g z m ≡ z → cond s (over _+_ joins g z m + g m) (over _+_ joins g z m) ≡ z
     go true e q = absurd (h m (omega arith) e)
     go false e q = q
 
@@ -27,7 +26,7 @@ over-start joins g z c zero = refl
 over-start joins g z c (suc m) = go (joins m) (over-start joins g z c m)
   where
     go : (s : Bool) → over _+_ joins g (z + c) m ≡ over _+_ joins g z m + c
-        → pick s (over _+_ joins g (z + c) m + g m) (over _+_ joins g (z + c) m) ≡ pick s (over _+_ joins g z m + g m) (over _+_ joins g z m) + c
+        → cond s (over _+_ joins g (z + c) m + g m) (over _+_ joins g (z + c) m) ≡ cond s (over _+_ joins g z m + g m) (over _+_ joins g z m) + c
     go true q = omega arith
     go false q = q
 
@@ -35,7 +34,7 @@ over-one : (joins : ℕ → Bool) (g : ℕ → ℕ) (z u m : ℕ) → u < m → 
 over-one joins g z u zero l t h = absurd (omega arith)
 over-one joins g z u (suc m) l t h = go (joins m) refl (λ k. over-one joins g z u m k t (λ i s. h i (omega arith)))
   where
-    go : (s : Bool) → joins m ≡ s → (u < m → over _+_ joins g z m ≡ z + g u) → pick s (over _+_ joins g z m + g m) (over _+_ joins g z m) ≡ z + g u
+    go : (s : Bool) → joins m ≡ s → (u < m → over _+_ joins g z m ≡ z + g u) → cond s (over _+_ joins g z m + g m) (over _+_ joins g z m) ≡ z + g u
     go true e q =
         let k : m ≡ u = h m (omega arith) e in
         ap₂ _+_ (over-none joins g z m (λ i s j. absurd (omega (arith, h i (omega arith) j)))) (ap g k)
@@ -46,7 +45,7 @@ over-one joins g z u (suc m) l t h = go (joins m) refl (λ k. over-one joins g z
 
 -- the last bus handed to its parent
 abbrev handed : (ℕ → ℕ) → (ℕ → ℕ) → ℕ → ℕ → ℕ
-handed p f n j = pick (eqb (p n) j) (f j + f n) (f j)
+handed p f n j = cond (eqb (p n) j) (f j + f n) (f j)
 
 -- a bus below n has bus n for a neighbour exactly where it is its parent
 last-near : (p : ℕ → ℕ) (n b w : ℕ) → b < n → (n ≡ w → ⊥) → near p b w n ≡ eqb (p n) b
@@ -60,7 +59,7 @@ sums-handed p f n (suc m) =
     (λ l. go (eqb (p n) m) refl (r .0) (r .1) l, λ l. stay l (r .1))
   where
     go : (s : Bool) → eqb (p n) m ≡ s → (p n < m → sums (handed p f n) m ≡ sums f m + f n) → (m ≤ p n → sums (handed p f n) m ≡ sums f m)
-        → p n < suc m → sums (handed p f n) m + pick s (f m + f n) (f m) ≡ sums f m + f m + f n
+        → p n < suc m → sums (handed p f n) m + cond s (f m + f n) (f m) ≡ sums f m + f m + f n
     go true e q r l = omega (arith, r (omega (arith, eqb-true (p n) m e)))
     go false e q r l = omega (arith, q (omega (arith, eqb-false (p n) m e)))
 
@@ -98,7 +97,7 @@ module _ (p : ℕ → ℕ) (D : ℕ) (h : ℕ → ℕ) where
       same : (z : ℕ) → x z ≡ x′ z
       same z = over-same _+_ (near p b w) (near p b w) g g′ z n (λ i l. refl) r
 
-      go : (s : Bool) → eqb (p n) b ≡ s → pick s (x (f b) + g n) (x (f b)) ≡ x′ (pick s (f b + f n) (f b))
+      go : (s : Bool) → eqb (p n) b ≡ s → cond s (x (f b) + g n) (x (f b)) ≡ x′ (cond s (f b + f n) (f b))
       go true e =
           let q : p n ≡ b = eqb-true (p n) b e in
           let u : g n ≡ f n = rw (← q) (leaf f n k) in
@@ -125,7 +124,7 @@ near-none : (p : ℕ → ℕ) (b i : ℕ) → near p b b i ≡ joined p b i
 unfolding near
 near-none p b i = go (eqb i b) refl
   where
-    go : (s : Bool) → eqb i b ≡ s → pick s false (joined p b i) ≡ joined p b i
+    go : (s : Bool) → eqb i b ≡ s → cond s false (joined p b i) ≡ joined p b i
     go true e = rw (eqb-true i b e) (sym (joined-self p b))
     go false e = refl
 

@@ -2,17 +2,16 @@
 -- Assumes nothing.
 use Prim.Native.Nat.{ℕ, zero, suc, _≤_, _<_}
 use mathlib.Core.Path.{_≡_, refl, _∙_, ap}
-use mathlib.Core.Bool.{Bool, true, false}
+use mathlib.Core.Bool.{Bool, true, false, cond}
 use native.Mathlib.Omega.{arith}
 use lib.Dec.{ltb}
 use borrow.Author.Tests.{ltb-true, lt-ltb, le-ltb}
-use Rattle.enclosure.specs.Point.{pick}
 use Rattle.tree.specs.Walk.{Tree}
 
 -- a step for each bus on the way from b to bus 0, and z there; p gives the parents. A fuel of b is enough, since the numbers fall
 abbrev pub toward : {A : Type 0} → (ℕ → ℕ) → (ℕ → A → A) → A → ℕ → ℕ → A
 toward p step z zero b = z
-toward p step z (suc f) b = pick (ltb (p b) b) (step b (toward p step z f (p b))) z
+toward p step z (suc f) b = cond (ltb (p b) b) (step b (toward p step z f (p b))) z
 
 fuelled : {A : Type 0} (p : ℕ → ℕ) (step : ℕ → A → A) (z : A) (f g b : ℕ) → b ≤ f → b ≤ g → toward p step z f b ≡ toward p step z g b
 fuelled p step z zero zero b l m = refl
@@ -21,7 +20,7 @@ fuelled p step z (suc f) zero b l m = rw (le-ltb (p b) b (omega arith))
 fuelled {A} p step z (suc f) (suc g) b l m = go (ltb (p b) b) refl (λ h. fuelled p step z f g (p b) (omega arith) (omega arith))
   where
     go : (t : Bool) → ltb (p b) b ≡ t → (p b < b → toward p step z f (p b) ≡ toward p step z g (p b))
-        → pick t (step b (toward p step z f (p b))) z ≡ pick t (step b (toward p step z g (p b))) z
+        → cond t (step b (toward p step z f (p b))) z ≡ cond t (step b (toward p step z g (p b))) z
     go true e r = ap (step b) (r (ltb-true (p b) b e))
     go false e r = refl
 
@@ -41,7 +40,7 @@ toward-same p p′ step step′ z n hp hs zero b l = refl
 toward-same {A} p p′ step step′ z n hp hs (suc f) b l = rw (← hp b l) (go (ltb (p b) b) refl (toward-same p p′ step step′ z n hp hs f (p b)))
   where
     go : (t : Bool) → ltb (p b) b ≡ t → (p b < n → toward p step z f (p b) ≡ toward p′ step′ z f (p b))
-        → pick t (step b (toward p step z f (p b))) z ≡ pick t (step′ b (toward p′ step′ z f (p b))) z
+        → cond t (step b (toward p step z f (p b))) z ≡ cond t (step′ b (toward p′ step′ z f (p b))) z
     go true e r = let m = ltb-true (p b) b e in hs b _ (omega arith) l ∙ ap (step′ b) (r (omega arith))
     go false e r = refl
 

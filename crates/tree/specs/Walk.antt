@@ -3,26 +3,25 @@
 -- Assumes nothing.
 use Prim.Native.Nat.{ℕ, zero, suc, _+_, _*_, _-_, _≤_, _<_}
 use mathlib.Core.Path.{_≡_, refl, sym, _∙_, ap, ap₂}
-use mathlib.Core.Bool.{Bool, true, false}
+use mathlib.Core.Bool.{Bool, true, false, cond}
 use mathlib.Core.Logic.{_⊎_, inl, inr, ⊎-elim}
 use native.Mathlib.Omega.{arith}
 use native.Mathlib.Numerals.{add-one}
 use lib.Dec.{ltb, eqb}
 use borrow.Author.Tests.{ltb-true, ltb-false, lt-ltb, eqb-true, eqb-false, eq-eqb, ne-eqb}
-use Rattle.enclosure.specs.Point.{pick}
 
 -- ---- neighbours: p gives the parent of each bus but bus 0, a bus with a smaller number
 unfoldable pub joined : (ℕ → ℕ) → ℕ → ℕ → Bool
-joined p b i = pick (ltb i b) (eqb (p b) i) (pick (ltb b i) (eqb (p i) b) false)
+joined p b i = cond (ltb i b) (eqb (p b) i) (cond (ltb b i) (eqb (p i) b) false)
 
 -- "each neighbour n other than a"; without none is w = b, which is no neighbour of b
 unfoldable pub near : (ℕ → ℕ) → ℕ → ℕ → ℕ → Bool
-near p b w i = pick (eqb i w) false (joined p b i)
+near p b w i = cond (eqb i w) false (joined p b i)
 
 -- z, and what g gives for each number below n that joins
 abbrev pub over : {A : Type 0} → (A → A → A) → (ℕ → Bool) → (ℕ → A) → A → ℕ → A
 over add joins g z zero = z
-over add joins g z (suc k) = pick (joins k) (add (over add joins g z k) (g k)) (over add joins g z k)
+over add joins g z (suc k) = cond (joins k) (add (over add joins g z k) (g k)) (over add joins g z k)
 
 -- what a walk gathers: what a bus has itself, how two parts add up, and what a part at i is at its neighbour b
 pub record Gather (A : Type 0) : Type 0 where
@@ -40,7 +39,7 @@ pub joined-cases : (p : ℕ → ℕ) (b i : ℕ) → joined p b i ≡ true → (
 unfolding joined
 joined-cases p b i h = go (ltb i b) (ltb b i) refl refl h
   where
-    go : (s t : Bool) → ltb i b ≡ s → ltb b i ≡ t → pick s (eqb (p b) i) (pick t (eqb (p i) b) false) ≡ true → ((i < b) × (p b ≡ i)) ⊎ ((b < i) × (p i ≡ b))
+    go : (s t : Bool) → ltb i b ≡ s → ltb b i ≡ t → cond s (eqb (p b) i) (cond t (eqb (p i) b) false) ≡ true → ((i < b) × (p b ≡ i)) ⊎ ((b < i) × (p i ≡ b))
     go true t e f h = inl (ltb-true i b e, eqb-true (p b) i h)
     go false true e f h = inr (ltb-true b i f, eqb-true (p i) b h)
     go false false e f h = let z : _≡_ {A = ℕ} 0 1 = cc in absurd (omega arith)
@@ -56,7 +55,7 @@ pub near-joined : (p : ℕ → ℕ) (b w i : ℕ) → near p b w i ≡ true → 
 unfolding near
 near-joined p b w i h = go (eqb i w) refl h
   where
-    go : (s : Bool) → eqb i w ≡ s → pick s false (joined p b i) ≡ true → (joined p b i ≡ true) × (i ≡ w → ⊥)
+    go : (s : Bool) → eqb i w ≡ s → cond s false (joined p b i) ≡ true → (joined p b i ≡ true) × (i ≡ w → ⊥)
     go true e h = let z : _≡_ {A = ℕ} 0 1 = cc in absurd (omega arith)
     go false e h = (h, eqb-false i w e)
 
@@ -78,7 +77,7 @@ over-same {A} add joins joins′ g g′ z (suc k) j h =
     rw (← j k (omega arith)) (go (joins k) refl (over-same add joins joins′ g g′ z k (λ i l. j i (omega arith)) (λ i l. h i (omega arith))))
   where
     go : (s : Bool) → joins k ≡ s → over add joins g z k ≡ over add joins′ g′ z k
-        → pick s (add (over add joins g z k) (g k)) (over add joins g z k) ≡ pick s (add (over add joins′ g′ z k) (g′ k)) (over add joins′ g′ z k)
+        → cond s (add (over add joins g z k) (g k)) (over add joins g z k) ≡ cond s (add (over add joins′ g′ z k) (g′ k)) (over add joins′ g′ z k)
     go true e r = ap₂ add r (h k (omega arith) e)
     go false e r = r
 
@@ -160,7 +159,7 @@ module _ {A B : Type 0} (G : Gather A) (H : Gather B) (p : ℕ → ℕ) (n : ℕ
   over-related b l joins f g x y (suc m) r h = go (joins m) refl (over-related b l joins f g x y m r (λ i s. h i (omega arith)))
     where
       go : (s : Bool) → joins m ≡ s → R b (over (G .add) joins f x m) (over (H .add) joins g y m)
-          → R b (pick s (G .add (over (G .add) joins f x m) (f m)) (over (G .add) joins f x m)) (pick s (H .add (over (H .add) joins g y m) (g m)) (over (H .add) joins g y m))
+          → R b (cond s (G .add (over (G .add) joins f x m) (f m)) (over (G .add) joins f x m)) (cond s (H .add (over (H .add) joins g y m) (g m)) (over (H .add) joins g y m))
       go true e q = adds b _ _ _ _ l q (h m (omega arith) e)
       go false e q = q
 
@@ -191,7 +190,7 @@ walk-same {A} add own own′ through through′ p p′ n hp ho ht (suc fuel) b w
 
 -- ---- for code: one more bus in a loop, and one more step of a recursion
 pub over-more : {A : Type 0} (add : A → A → A) (joins : ℕ → Bool) (g : ℕ → A) (z : A) (i : ℕ)
-    → over add joins g z (i + 1) ≡ pick (joins i) (add (over add joins g z i) (g i)) (over add joins g z i)
+    → over add joins g z (i + 1) ≡ cond (joins i) (add (over add joins g z i) (g i)) (over add joins g z i)
 over-more add joins g z i = rw add-one
 
 pub walk-more : {A : Type 0} (G : Gather A) (p : ℕ → ℕ) (n fuel b w : ℕ) → (fuel ≡ 0 → ⊥)

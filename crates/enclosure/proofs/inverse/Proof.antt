@@ -1,5 +1,4 @@
 -- `enclosure::inverse` computes its model. Assumes nothing.
-use borrow.Author.Needs.{needs}
 use Rattle.enclosure.specs.Doubles.{inverted}
 use Rattle.enclosure.proofs.inverse.Statement.{statement}
 use Rattle.enclosure.proofs.inverse.Tie as tie

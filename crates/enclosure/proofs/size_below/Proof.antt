@@ -1,5 +1,4 @@
 -- `enclosure::size_below` computes its definition. Assumes nothing.
-use mathlib.Core.Path.{_≡_, sym, _∙_}
 use Prim.Native.Nat.{ℕ, _*_, _^_, _≤_, _<_}
 use native.Mathlib.Nat.{le-trans, le-of-lt, mul-le-mul}
 use native.Mathlib.Omega.{arith}

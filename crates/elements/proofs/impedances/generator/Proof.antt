@@ -1,11 +1,8 @@
 -- `elements::impedances::generator` computes its definition. Assumes nothing.
-use mathlib.Core.Path.{_≡_, refl, sym, ap, _∙_}
-use Prim.Native.Nat.{ℕ, _+_, _*_, _≤_, _<_}
 use native.Mathlib.Nat.{mul-le-mul}
 use native.Mathlib.Omega.{arith}
 use borrow.Author.Needs.{needs}
 use borrow.Author.Tests.{le-leb, lt-leb}
-use Rattle.elements.specs.Factors.{sineOf}
 use Rattle.elements.specs.Sizes.{saturation-most}
 use Rattle.elements.specs.Rounded.{generatorBy}
 use Rattle.elements.proofs.impedances.generator.Statement.{statement}

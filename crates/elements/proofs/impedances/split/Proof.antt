@@ -1,10 +1,6 @@
 -- `elements::impedances::split` computes its definition. Assumes nothing.
-use mathlib.Core.Path.{_≡_, refl, sym, ap, _∙_}
-use Prim.Native.Nat.{ℕ, _+_, _*_, _≤_, _<_}
 use native.Mathlib.Omega.{arith}
 use borrow.Author.Needs.{needs}
-use borrow.Author.Tests.{le-leb, lt-leb}
-use Rattle.elements.specs.Factors.{splitOf}
 use Rattle.elements.specs.Sizes.{split-re-most, split-im-most}
 use Rattle.elements.specs.Rounded.{splitBy}
 use Rattle.elements.proofs.impedances.split.Statement.{statement}
