@@ -148,7 +148,7 @@ fn record_at(buses: [Bus; BUSES], i: usize) -> Bus
 }
 
 // The ground in the input on which the record of bus i is refused, 0 where it is accepted.
-pub fn bus_record_number(buses: [Bus; BUSES], i: usize) -> u32
+pub(crate) fn bus_record_number(buses: [Bus; BUSES], i: usize) -> u32
     requires { ⌜ i < maxBuses ⌝ }
     ensures { λ r. ⌜ r ≡ busRecordNumber buses i ⌝ }
 {

@@ -46,7 +46,7 @@ fn entry_of(entry: Entry, b: Bus) -> u32
 }
 
 // One number of every bus record, that of a blank record past the last bus.
-pub fn column(s: Study, entry: Entry) -> [u32; BUSES]
+pub(crate) fn column(s: Study, entry: Entry) -> [u32; BUSES]
     ensures { λ r. ⌜ ((i : ℕ) → i < maxBuses → getD r i 0 ≡ entryOf entry (busAt (network s .buses) i)) ⌝ }
 {
     let blank = entry_of(entry, blank_bus());
@@ -62,7 +62,7 @@ pub fn column(s: Study, entry: Entry) -> [u32; BUSES]
 }
 
 // An array of numbers at any place, 0 past its end.
-pub fn number_at(values: &[u32; BUSES], i: usize) -> u32
+pub(crate) fn number_at(values: &[u32; BUSES], i: usize) -> u32
     ensures { λ r. ⌜ r ≡ numberAt (now (values .entry)) i ⌝ }
 {
     if i < BUSES {
@@ -72,7 +72,7 @@ pub fn number_at(values: &[u32; BUSES], i: usize) -> u32
 }
 
 // Two arrays as a point at any place, nothing past their end.
-pub fn point_at(re: &[f64; BUSES], im: &[f64; BUSES], i: usize) -> Complex
+pub(crate) fn point_at(re: &[f64; BUSES], im: &[f64; BUSES], i: usize) -> Complex
     ensures { λ r. ⌜ r ≡ pointAt (now (re .entry)) (now (im .entry)) i ⌝ }
 {
     if i < BUSES {
@@ -85,7 +85,7 @@ pub fn point_at(re: &[f64; BUSES], im: &[f64; BUSES], i: usize) -> Complex
 }
 
 // The impedances of the branches, each on its bus's own side, by the column of nominal volts.
-pub fn branches(s: Study, volts: &[u32; BUSES]) -> Points
+pub(crate) fn branches(s: Study, volts: &[u32; BUSES]) -> Points
     requires { ⌜ ((i : ℕ) → i < maxBuses → getD (now volts) i 0 ≡ busAt (network s .buses) i .volts) ⌝ }
     ensures { λ r. ⌜ ((i : ℕ) → i < maxBuses → pointAt (r .re) (r .im) i ≡ branchesBy (network s) i) ⌝ }
 {
@@ -123,7 +123,7 @@ fn given_by(converters: bool, tolerance: u32, volts: u32, p: Source) -> Complex
 }
 
 // What stands at each bus, by the column of nominal volts: the sum of its converters' currents, or of its machines' admittances.
-pub fn standing_at(s: Study, volts: &[u32; BUSES], converters: bool) -> Points
+pub(crate) fn standing_at(s: Study, volts: &[u32; BUSES], converters: bool) -> Points
     requires { ⌜ ((i : ℕ) → i < maxBuses → getD (now volts) i 0 ≡ busAt (network s .buses) i .volts) ⌝ }
     ensures { λ r. ⌜ ((b : ℕ) → b < maxBuses → pointAt (r .re) (r .im) b ≡ standing converters (network s) b) ⌝ }
 {

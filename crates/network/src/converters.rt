@@ -71,7 +71,7 @@ fn gathered_at_root(
 }
 
 // The converters' part at bus b, in a tree of n buses.
-pub fn carried(
+pub(crate) fn carried(
     parents: &[u32; BUSES],
     above: &[u32; BUSES],
     below: &[u32; BUSES],

@@ -78,7 +78,7 @@ fn figures(c: u32, volts: u32, y: Complex, x: Complex) -> Amperes
 }
 
 // The six amperes at bus b. Each column of the study is made here, once, and lent to what reads it.
-pub fn amperes_at(s: Study, b: usize) -> Amperes
+pub(crate) fn amperes_at(s: Study, b: usize) -> Amperes
     requires { ⌜ b < length (network s .buses) ⌝ }
     ensures { λ r. ⌜ r ≡ amperesAt (network s) b ⌝ }
 {

@@ -25,7 +25,7 @@ fn lower_volts(a: u32, b: u32) -> u32
 }
 
 // The impedance of a bus's branch on the bus's own side, by the nominal volts of its parent; nothing at bus 0.
-pub fn branch_impedance(tolerance: u32, parent_volts: u32, b: Bus) -> Complex
+pub(crate) fn branch_impedance(tolerance: u32, parent_volts: u32, b: Bus) -> Complex
     ensures { λ z. ⌜ ((parent : Bus) → parent .volts ≡ «parent_volts» → z ≡ branchBy tolerance parent b) ⌝ }
 {
     let kind = b.kind;
@@ -44,14 +44,14 @@ pub fn branch_impedance(tolerance: u32, parent_volts: u32, b: Bus) -> Complex
 }
 
 // Rated volts on one side of a branch of this kind: those of a transformer's record, 1 for a line.
-pub fn rated_volts(kind: u32, volts: u32) -> u32
+pub(crate) fn rated_volts(kind: u32, volts: u32) -> u32
     ensures { λ r. ⌜ r ≡ cond (eqb kind 2) volts 1 ⌝ }
 {
     if kind == 2 { volts } else { 1 }
 }
 
 // The admittance of a feeder, generator or motor at a bus of these nominal volts.
-pub fn machine_admittance(tolerance: u32, volts: u32, p: Source) -> Complex
+pub(crate) fn machine_admittance(tolerance: u32, volts: u32, p: Source) -> Complex
     ensures { λ y. ⌜ y ≡ admittanceBy tolerance volts p ⌝ }
 {
     let kind = p.kind;
@@ -64,7 +64,7 @@ pub fn machine_admittance(tolerance: u32, volts: u32, p: Source) -> Complex
 }
 
 // The current that a converter supplies.
-pub fn converter_current(p: Source) -> Complex
+pub(crate) fn converter_current(p: Source) -> Complex
     ensures { λ x. ⌜ x ≡ suppliedBy p ⌝ }
 {
     converter(p.f1, p.f2)

@@ -81,7 +81,7 @@ fn feeder_place_ok(j: usize, p: Source) -> bool
 }
 
 // The ground in the input on which the record of the source at place j is refused, 0 where it is accepted.
-pub fn source_record_number(s: Study, j: usize, p: Source) -> u32
+pub(crate) fn source_record_number(s: Study, j: usize, p: Source) -> u32
     ensures { λ r. ⌜ r ≡ sourceRecordNumber (network s .buses) j p ⌝ }
 {
     let bus = p.bus as usize;

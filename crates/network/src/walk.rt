@@ -17,7 +17,7 @@ use enclosure::nothing;
 use enclosure::scale;
 
 // The number of a bus's parent.
-pub fn parent_of(parents: &[u32; BUSES], b: usize) -> usize
+pub(crate) fn parent_of(parents: &[u32; BUSES], b: usize) -> usize
     ensures { λ r. ⌜ r ≡ numberAt (now (parents .entry)) b ⌝ }
 {
     number_at(parents, b) as usize
@@ -71,7 +71,7 @@ fn seen_through(
 }
 
 // The admittance at b without w, in a tree of n buses, at most `fuel` branches away; without none is w = b.
-pub fn seen(
+pub(crate) fn seen(
     parents: &[u32; BUSES],
     above: &[u32; BUSES],
     below: &[u32; BUSES],

@@ -24,7 +24,7 @@ fn field_end(row: &[u8], at: usize) -> usize
 }
 
 // The field that begins at a place: the row's own bytes up to the comma.
-pub fn field(row: &[u8], at: usize) -> &[u8]
+pub(crate) fn field(row: &[u8], at: usize) -> &[u8]
     requires { ⌜ at ≤ length (now row) ⌝ }
     ensures { λ r. ⌜ now r ≡ stretch atComma (drop at (now (row .entry))) ⌝ }
 {
@@ -79,7 +79,7 @@ fn value(field: &[u8]) -> Number
 }
 
 // The number of a field.
-pub fn number_of(field: &[u8]) -> Number
+pub(crate) fn number_of(field: &[u8]) -> Number
     ensures { λ r. ⌜ r ≡ numberOf (now (field .entry)) ⌝ }
 {
     if length_ok(field) {

@@ -24,7 +24,7 @@ fn ends_row(text: &[u8], i: usize) -> bool
 }
 
 // Where the row that begins at a place ends: at its CRLF, or with the text.
-pub fn row_end(text: &[u8], at: usize) -> usize
+pub(crate) fn row_end(text: &[u8], at: usize) -> usize
     requires { ⌜ at ≤ length (now text) ⌝ }
     ensures { λ r. ⌜ (r ≡ at + before atCrlf (drop at (now (text .entry)))) × (r ≤ length (now (text .entry))) ⌝ }
 {
@@ -96,7 +96,7 @@ fn record_of(first: bool, letter: u8, n: Numbers) -> Row
 }
 
 // What a row says: a letter, a comma and numbers.
-pub fn row_of(first: bool, row: &[u8]) -> Row
+pub(crate) fn row_of(first: bool, row: &[u8]) -> Row
     ensures { λ r. ⌜ r ≡ rowOf first (now (row .entry)) ⌝ }
 {
     if row.len() < 2 {
