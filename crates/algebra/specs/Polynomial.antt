@@ -1,12 +1,12 @@
 -- Polynomials over ℕ, compared by computing their normal forms: `ring` proves an identity, `poly-le` an order that holds
 -- coefficient by coefficient. Both are theorems about every list of values; nothing is assumed.
-use Prim.Native.Nat.{ℕ, zero, suc, _+_, _*_, _-_, _≤_, _<_, compare, Ordering, Ordering·lt, Ordering·eq, Ordering·gt, zero-le, suc-le-suc}
+use Prim.Native.Nat.{ℕ, zero, suc, _+_, _*_, _-_, _≤_, compare, Ordering, Ordering·lt, Ordering·eq, Ordering·gt, zero-le, suc-le-suc}
 use mathlib.Core.Path.{_≡_, refl, sym, _∙_, ap, ap₂, subst₂}
 use mathlib.Core.List.{List, [], _∷_}
 use mathlib.Core.Bool.{Bool, true, false}
 use mathlib.Core.Logic.{_⊎_, inl, inr, ⊎-elim}
 use native.Mathlib.Omega.{arith}
-use native.Mathlib.Nat.{zero-add, add-zero, zero-mul, one-mul, mul-zero, mul-one, add-assoc, add-comm, add-left-comm, mul-add, add-mul, mul-assoc, mul-comm, mul-left-comm, mul-mul-mul-comm, le-refl, le-trans, le-of-eq, le-antisymm, add-le-add, mul-le-mul-left, mul-le-mul-right, add-le-add-iff-right, le-dest, le-add-left, le-of-mul-le-mul-left}
+use native.Mathlib.Nat.{zero-add, add-zero, zero-mul, one-mul, mul-zero, mul-one, add-assoc, add-comm, mul-add, add-mul, mul-assoc, mul-left-comm, mul-mul-mul-comm, mul-le-mul-right, le-dest}
 use native.Mathlib.Numerals.{add-one}
 use lib.Dec.{T, isEq, leb, leb→le, eqb, eqb→eq}
 

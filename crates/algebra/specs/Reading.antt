@@ -1,8 +1,8 @@
 -- Reading a number as a polynomial. `search read` finds the expression behind a goal, so that a polynomial fact is proved by
 -- naming its variables and the facts it follows from. Assumes nothing.
-use Prim.Native.Nat.{ℕ, zero, suc, _+_, _*_, _≤_, _<_, compare, Ordering, Ordering·eq}
+use Prim.Native.Nat.{ℕ, suc, _+_, _*_, _≤_, _<_, compare, Ordering·eq}
 use mathlib.Core.Path.{_≡_, refl, sym, _∙_, ap, ap₂, subst₂}
-use mathlib.Core.List.{List, [], _∷_}
+use mathlib.Core.List.{List, _∷_}
 use native.Mathlib.Omega.{arith}
 use native.Mathlib.Nat.{add-le-add, mul-le-mul-left, le-of-mul-le-mul-left}
 use Rattle.algebra.specs.Polynomial.{E, var, lit, _⊞_, _⊠_, nxt, nth, den, nf, nil, excess, apart, ring, poly-le}

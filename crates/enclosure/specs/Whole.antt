@@ -1,15 +1,15 @@
 -- Whole numbers up to 2 ^ 53 as f64: sums, differences and comparisons of them are those of the whole numbers.
 -- Assumes nothing.
-use mathlib.Core.Path.{_≡_, refl, sym, ap, _∙_, subst}
+use mathlib.Core.Path.{_≡_, refl, sym, ap, _∙_}
 use Prim.Native.Nat.{ℕ, _+_, _-_, _*_, _^_, _≤_, _<_, min}
-use native.Mathlib.Nat.{le-refl, le-of-lt, le-trans, not-le-of-lt, lt-of-not-le, mul-one, mul-comm, mul-assoc, mul-left-comm, mul-pos, mul-sub, mul-le-mul-right}
+use native.Mathlib.Nat.{le-of-lt, le-trans, not-le-of-lt, lt-of-not-le, mul-one, mul-comm, mul-assoc, mul-left-comm, mul-pos, mul-sub, mul-le-mul-right}
 use native.Mathlib.Omega.{arith}
 use mathlib.Core.Bool.{Bool, true, false, not, _&&_, _||_, cond, true≢false}
 use lib.IntN.{ℤ, pos}
 use lib.Dec.{T, ltb, leb, eqb, le→leb, leb→le, nleb→lt, ltb→lt, lit<}
 use borrow.Author.Tests.{ltb-true, ltb-false, eqb-true, eqb-false, lt-ltb, le-ltb, le-leb, lt-leb}
-use lib.Ieee.Order.{transfer, le-of-values}
-use lib.Ieee.{Float, nan, inf, fin, Format, binary64, up, down, round, ofInt, inFloat, add, sub, sum, lt, le}
+use lib.Ieee.Order.{transfer}
+use lib.Ieee.{Float, fin, Format, binary64, up, down, round, ofInt, inFloat, add, sub, sum, lt, le}
 use lib.Ieee.Fits.{down-pos}
 use lib.Ieee.Exact.{HasValue}
 use lib.Ieee.Scale.{round-same}

@@ -11,7 +11,7 @@ use Rattle.network.specs.declared.Bus.{Bus}
 use Rattle.network.specs.declared.Source.{Source}
 use Rattle.network.specs.Network.{Network, maxBuses, maxSources, busAt, anyBranch, ifTransformer}
 use Rattle.network.specs.Grounds.{Ground, first, parentOk, depthOk, busGrounds, busRecordNumber, addBusGrounds, busNumber, sourceGrounds, sourceRecordNumber, addSourceGrounds, sourceNumber, closeGrounds, closeNumber}
-use Rattle.network.specs.Tests.{by-test, both-true, at-zero, past-zero}
+use Rattle.network.specs.Booleans.{by-test, both-true, at-zero, past-zero}
 use Rattle.network.specs.Ways.{Same, way-same}
 
 -- ---- a list of grounds whose numbers are not 0 gives 0 exactly where every test is passed

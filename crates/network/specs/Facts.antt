@@ -12,7 +12,7 @@ use Rattle.network.specs.declared.Source.{Source}
 use Rattle.network.specs.Records.{within, all, lineTests, transformerTests, branchOk, ratedOk, feederTests, generatorTests, motorTests, converterTests, fieldsOk}
 use Rattle.network.specs.Network.{Network, maxBuses, maxSources, maxBranches, maxTransformers, busAt, parentOf, sourceAt, depthOf, transformersOf}
 use Rattle.network.specs.Grounds.{depthOk, busGrounds, busRecordNumber, sourceGrounds, sourceRecordNumber}
-use Rattle.network.specs.Tests.{by-test, both-true, where-true, within-true, at-zero, past-zero, all-true, not-both-zero}
+use Rattle.network.specs.Booleans.{by-test, both-true, where-true, within-true, at-zero, past-zero, all-true, not-both-zero}
 use Rattle.network.specs.Acceptance.{Passed, passed}
 use Rattle.network.specs.Rebuilt.{Rebuilt}
 

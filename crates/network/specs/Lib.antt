@@ -2,7 +2,7 @@ pub mod Records
 pub mod Network
 pub mod Grounds
 pub mod Calls
-pub mod Tests
+pub mod Booleans
 pub mod Ways
 pub mod Acceptance
 pub mod Rebuilt

@@ -2,15 +2,13 @@
 -- the amperes given meet demand 3 for the network read off those calls, the verdict follows from them as document 01 says, and a network
 -- alike in all but its converters gets the same machines' figures. Assumes nothing.
 use Prim.Native.Nat.{ℕ, _+_, _<_}
-use mathlib.Core.Path.{_≡_, refl, sym, _∙_, ap, subst}
+use mathlib.Core.Path.{_≡_, sym, _∙_, ap, subst}
 use mathlib.Core.Bool.{true}
 use mathlib.Core.List.{List}
 use native.Mathlib.Omega.{arith}
-use lib.Dec.{eqb}
 use lib.ListN.{length}
 use borrow.Author.Tests.{eq-eqb}
 use Rattle.network.specs.declared.Amperes.{Amperes}
-use Rattle.network.specs.declared.Verdict.{Verdict}
 use Rattle.network.specs.declared.Found.{Found}
 use Rattle.network.specs.Network.{Network, busAt}
 use Rattle.network.specs.declared.Bus.{Bus}
@@ -18,7 +16,7 @@ use Rattle.network.specs.Calls.{Call, run}
 use Rattle.network.specs.Rebuilt.{Rebuilt, run-rebuilt}
 use Rattle.network.specs.Facts.{bus-rating, bus-peak-rating}
 use Rattle.network.specs.Demand.{Figures, Whole, Demand}
-use Rattle.network.specs.Rounded.{figuresAt, amperesAt}
+use Rattle.network.specs.Rounded.{amperesAt}
 use Rattle.network.specs.Verdict.{verdictOn}
 use Rattle.network.specs.Query.{queryNumber, amperesGiven, verdictGiven}
 use Rattle.network.specs.Claim.{claim}

@@ -28,7 +28,7 @@ use Rattle.tree.specs.Sources.{Bounded}
 use Rattle.network.specs.Network as records
 use Rattle.network.specs.Network.{Network, busAt, sourceAt, along}
 use Rattle.network.specs.Rebuilt.{Rebuilt}
-use Rattle.network.specs.Tests.{by-test}
+use Rattle.network.specs.Booleans.{by-test}
 use Rattle.network.specs.Facts.{bus-volts, bus-parent, bus-kind, line-ranges, transformer-ranges, line-volts, transformer-volts, bus-depth, Rated, source-kind, source-bus, feeder-ranges, generator-ranges, motor-ranges, converter-ranges, machine-volts, ConverterRanges}
 use Rattle.network.specs.Grid.{branchOf, aboveOf, belowOf, impedanceOf, admittanceOf, currentOf, isMachine, isConverter, gridOf}
 use Rattle.network.specs.Rounded.{branchBy, admittanceBy, machineBy, suppliedBy, branchesBy}

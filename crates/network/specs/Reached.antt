@@ -3,7 +3,7 @@
 use mathlib.Core.Path.{_≡_, refl, ap, _∙_}
 use mathlib.Core.Bool.{false, cond}
 use mathlib.Core.List.{List, [], _∷_, _++_, map}
-use Prim.Native.Nat.{ℕ, zero, suc, _+_, _<_, _-_}
+use Prim.Native.Nat.{ℕ, zero, suc, _+_, _<_}
 use native.Mathlib.Omega.{arith}
 use borrow.Author.Tests.{lt-ltb}
 use lib.ListN.{length, take, drop, getD, drop-of-length-le}
@@ -14,7 +14,7 @@ use Rattle.network.specs.Network.{Network, blank, blankSource, busAt, so
 use Rattle.network.specs.Grounds.{startNetwork, busNumber, afterBus, sourceNumber, afterSource, closeNumber, afterClose}
 use Rattle.network.specs.Calls.{Call, step, runFrom, run-append, emptyNetwork, run}
 use Rattle.network.specs.Calls.Call.{starting, addingBus, addingSource, closing}
-use Rattle.network.specs.Tests.{by-test}
+use Rattle.network.specs.Booleans.{by-test}
 use Rattle.network.specs.Acceptance.{bus-record-same, bus-number-open, source-number-open, granted}
 use Rattle.network.specs.Rebuilt.{Rebuilt}
 

@@ -16,7 +16,7 @@ use Rattle.network.specs.Network.{Network, maxBuses, maxSources, blank, 
 use Rattle.network.specs.Grounds.{emptyOf, startNetwork, busRecordNumber, busNumber, afterBus, sourceGrounds, sourceRecordNumber, sourceNumber, afterSource, closeNumber, afterClose}
 use Rattle.network.specs.Calls.{Call, step, runFrom, run}
 use Rattle.network.specs.Calls.Call.{starting, addingBus, addingSource, closing, querying}
-use Rattle.network.specs.Tests.{by-test, never}
+use Rattle.network.specs.Booleans.{by-test, never}
 use Rattle.network.specs.Acceptance.{passed, accepted, bus-record-same, bus-room, bus-accepted, source-room, source-accepted, close-fed}
 
 pub record Rebuilt (n : Network) : Type 0 where

@@ -21,7 +21,7 @@ use Rattle.network.specs.declared.Source.{Source}
 use Rattle.network.specs.declared.Amperes.{Amperes}
 use Rattle.network.specs.Network.{Network, busAt, parentOf}
 use Rattle.network.specs.Calls.{Call, run}
-use Rattle.network.specs.Tests.{both-true}
+use Rattle.network.specs.Booleans.{both-true}
 use Rattle.network.specs.Grid.{isMachine, isConverter, machineAt, gridOf, aboveOf, belowOf}
 use Rattle.network.specs.Rounded.{branchBy, admittanceBy, machineBy, ownBy, branchesBy, seenAt, amperesAt}
 

@@ -21,7 +21,7 @@ use Rattle.tree.specs.Sources.{Bounded, sum-held}
 use Rattle.network.specs.declared.Source.{Source}
 use Rattle.network.specs.Network.{Network, sourceAt, blankSource}
 use Rattle.network.specs.Rebuilt.{Rebuilt}
-use Rattle.network.specs.Tests.{both-true}
+use Rattle.network.specs.Booleans.{both-true}
 use Rattle.network.specs.Facts.{few-sources, first-feeder, bus-volts}
 use Rattle.network.specs.Grid.{admittanceOf, currentOf, isMachine, isConverter, machineAt, converterAt, gridOf}
 use Rattle.network.specs.Rounded.{machineBy, suppliedBy, ownBy, convertersBy}

@@ -1,6 +1,6 @@
 -- Document 01, "Verdict": on six amperes and the two ratings of a bus.
-use Prim.Native.Nat.{ℕ, _+_, _-_}
-use mathlib.Core.Bool.{Bool, cond}
+use Prim.Native.Nat.{ℕ, _-_}
+use mathlib.Core.Bool.{cond}
 use lib.Dec.{ltb, leb}
 use lib.Ieee.{Float, binary64, add, sub, lt, le}
 use Rattle.enclosure.specs.Units.{ofNat}

@@ -1,10 +1,10 @@
 -- The verdict on whole amperes is document 01's, on the whole numbers. Assumes nothing.
 use Prim.Native.Nat.{ℕ, _+_, _-_, _^_, _≤_, _<_}
-use mathlib.Core.Path.{_≡_, refl, sym, _∙_, ap}
-use mathlib.Core.Bool.{Bool, true, false, cond}
+use mathlib.Core.Path.{_≡_, _∙_, ap}
+use mathlib.Core.Bool.{Bool, true, cond}
 use native.Mathlib.Omega.{arith}
-use native.Mathlib.Nat.{le-trans, le-of-lt}
-use lib.Dec.{ltb, leb, eqb}
+use native.Mathlib.Nat.{le-of-lt}
+use lib.Dec.{ltb, leb}
 use lib.ListN.{length}
 use borrow.Author.Tests.{ltb-true, leb-true, lt-ltb, eq-eqb}
 use lib.Ieee.{binary64, sub, lt, le}
@@ -14,11 +14,11 @@ use Rattle.network.specs.declared.Amperes.{Amperes}
 use Rattle.network.specs.declared.Verdict.{Verdict}
 use Rattle.network.specs.declared.Verdict.the-variants.{Within, Over, Close}
 use Rattle.network.specs.Network.{Network, busAt}
-use Rattle.network.specs.Tests.{by-test}
+use Rattle.network.specs.Booleans.{by-test}
 use Rattle.network.specs.Demand.{Figures, Whole}
 use Rattle.network.specs.Rounded.{amperesAt}
 use Rattle.network.specs.Verdict.{verdictOf, verdictOn}
-use Rattle.network.specs.Query.{queryNumber, queryGrounds, verdictGiven}
+use Rattle.network.specs.Query.{queryNumber, verdictGiven}
 
 -- P against its rating, then the rest
 over-or : (p q : ℕ) (v w : Verdict) → p ≤ 2 ^ 53 → q ≤ 2 ^ 53 → v ≡ w

@@ -7,7 +7,7 @@ use native.Mathlib.Omega.{arith}
 use lib.Dec.{ltb, eqb}
 use Rattle.tree.specs.Toward.{toward-more, toward-end, toward-same}
 use Rattle.network.specs.declared.Bus.{Bus}
-use Rattle.network.specs.Tests.{by-test}
+use Rattle.network.specs.Booleans.{by-test}
 use Rattle.network.specs.Network.{busAt, along, way, anyBranch, ifTransformer, depthOf, transformersOf}
 
 -- two lists with the same records up to bus i

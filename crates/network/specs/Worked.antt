@@ -1,6 +1,6 @@
 -- Document 01's worked network of two buses, by computing the definitions; its verdict follows from demand 3 alone.
 -- Assumes nothing.
-use Prim.Native.Nat.{ℕ, zero, suc, _+_, _*_, _≤_, _<_}
+use Prim.Native.Nat.{ℕ, _+_, _*_, _≤_, _<_}
 use mathlib.Core.Path.{_≡_, refl, sym, ap, subst, _∙_}
 use mathlib.Core.Bool.{true}
 use mathlib.Core.List.{List, [], _∷_}
@@ -10,13 +10,13 @@ use lib.Dec.{eqb→eq, leb→le, le→leb, ltb→lt, lit<, lit≤}
 use lib.ListN.{length}
 use borrow.Author.Tests.{le-ltb, lt-leb}
 use Rattle.algebra.specs.Reading.{from, read, _⊹_, _⋆_}
-use Rattle.enclosure.specs.Point.{Point, inverse}
+use Rattle.enclosure.specs.Point.{inverse}
 use Rattle.enclosure.specs.Root.{rootOf, rootUp, below-of-squares}
 use Rattle.elements.specs.Exponential.{tOver, tUnder, over, under}
 use Rattle.elements.specs.Peak.{PeakBound, peakOver, peakUnder, crest}
-use Rattle.elements.specs.Factors.{factorC, sineOf, uxOf, splitOf}
+use Rattle.elements.specs.Factors.{factorC, sineOf, splitOf}
 use Rattle.elements.specs.Worked as factors
-use Rattle.elements.specs.Impedance.{line, transformer, split, feeder, motor, generator, converter}
+use Rattle.elements.specs.Impedance.{line, split, feeder, generator, converter}
 use Rattle.tree.specs.Walk.{joined, near}
 use Rattle.tree.specs.Grid.{through, seen}
 use Rattle.tree.specs.Converters.{across, carriedWithout}

@@ -13,7 +13,7 @@ use Rattle.network.specs.declared.Amperes.{Amperes}
 use Rattle.network.specs.declared.Verdict.{Verdict}
 use Rattle.network.specs.declared.Verdict.the-variants.{Within, Over, Close}
 use Rattle.network.specs.Verdict.{letterOf}
-use Rattle.network.specs.Tests.{by-test}
+use Rattle.network.specs.Booleans.{by-test}
 
 -- "the six amperes as plain decimal integers": x without its fraction, 0 where that is no number of 64 bits
 abbrev pub wholeOf : Float → ℕ

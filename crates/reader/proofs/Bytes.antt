@@ -9,7 +9,7 @@ use borrow.Author.Tests.{lt-ltb, le-ltb, le-leb, lt-leb}
 use lib.Dec.{eqb}
 use lib.ListN.{length, drop, getD, drop-of-length-le}
 use lib.Seq.{drop-cons}
-use Rattle.network.specs.Tests.{by-test}
+use Rattle.network.specs.Booleans.{by-test}
 use Rattle.reader.specs.declared.Number.the-variants.{Value, Broken}
 use Rattle.reader.specs.File.{cr, lf, comma, digit0, digit9, digits, decimal, valueOf}
 use Rattle.reader.specs.Stretches.{atCrlf, atComma}

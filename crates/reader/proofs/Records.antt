@@ -8,7 +8,7 @@ use borrow.Author.Tests.{eq-eqb, ne-eqb, eqb-true, leb-false}
 use lib.Dec.{leb, eqb}
 use lib.ListN.{length, take, drop, getD}
 use lib.Seq.{length-take-le, take-all, getD-take}
-use Rattle.network.specs.Tests.{by-test, both-true}
+use Rattle.network.specs.Booleans.{by-test, both-true}
 use Rattle.reader.specs.declared.Numbers.{Numbers}
 use Rattle.reader.specs.declared.Row.the-variants.{Start, WithBus, WithSource, Malformed}
 use Rattle.reader.specs.File.{busFields, sourceFields, comma, letterS, letterB, letterP, fields, allNumbers, amounts, busOf, sourceOf, recordOf, fieldsRow, rowOf}

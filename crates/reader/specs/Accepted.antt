@@ -13,7 +13,7 @@ use Rattle.network.specs.declared.Found.{Found}
 use Rattle.network.specs.Calls.{Call, starting, addingBus, addingSource, closing, runFrom, run-append, emptyNetwork, run}
 use Rattle.network.specs.Query.{queryNumber, amperesGiven, verdictGiven}
 use Rattle.network.specs.Promise.{Kept, promised}
-use Rattle.network.specs.Tests.{by-test}
+use Rattle.network.specs.Booleans.{by-test}
 use Rattle.reader.specs.declared.Row.{Row}
 use Rattle.reader.specs.declared.Row.the-variants.{Start, WithBus, WithSource, Malformed}
 use Rattle.reader.specs.File.{maxBytes, rows, rowOf, rowNumber, afterRow, Outcome, closeAfter, readFrom, readOf}

@@ -9,7 +9,7 @@ use borrow.Author.Tests.{leb-true, leb-false, le-leb, lt-leb}
 use lib.Dec.{leb}
 use lib.ListN.{length, take, set, replicate, length-set, length-replicate}
 use lib.Seq.{take-suc-set}
-use Rattle.network.specs.Tests.{by-test, never}
+use Rattle.network.specs.Booleans.{by-test, never}
 use Rattle.reader.specs.declared.Number.{Number}
 use Rattle.reader.specs.declared.Number.the-variants.{Value, Broken}
 use Rattle.reader.specs.declared.Numbers.{Numbers}

@@ -10,7 +10,7 @@ use borrow.Author.Tests.{leb-true, leb-false, le-leb, lt-leb}
 use lib.Dec.{leb, eqb, leb·zero, leb·suc-suc}
 use lib.ListN.{length, take, drop, drop-of-length-le, length-drop}
 use lib.Seq.{drop-cons, drop-drop, length-take-le}
-use Rattle.network.specs.Tests.{by-test}
+use Rattle.network.specs.Booleans.{by-test}
 use Rattle.reader.specs.File.{cr, lf, comma, rows, fields}
 
 -- whether the bytes begin with CRLF, and whether with a comma

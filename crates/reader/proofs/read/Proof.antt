@@ -2,7 +2,7 @@ use mathlib.Core.Path.{_≡_, refl, ap, _∙_}
 use borrow.Author.Needs.{needs}
 use lib.ListN.{length}
 use Rattle.network.specs.Network.{network}
-use Rattle.network.specs.Tests.{within-true}
+use Rattle.network.specs.Booleans.{within-true}
 use Rattle.reader.specs.declared.Reading.{Reading}
 use Rattle.reader.specs.File.{maxBytes, Outcome, outcomeOf, readOf}
 use Rattle.reader.proofs.read.Statement.{statement}

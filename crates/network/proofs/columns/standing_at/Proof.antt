@@ -1,4 +1,4 @@
-use Rattle.network.specs.Tests.{both-true}
+use Rattle.network.specs.Booleans.{both-true}
 use Rattle.network.specs.Network.{maxBuses, maxSources, network, busAt, sourceAt, blank, blankSource}
 use mathlib.Core.Bool.{Bool}
 use mathlib.Core.Logic.{⊎-elim}
