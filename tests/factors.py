@@ -1,0 +1,47 @@
+"""Document 01, "Factors", anew by whole numbers and fractions: what check-factors and check-impedances compare with."""
+from fractions import Fraction
+from functools import lru_cache
+from math import factorial, isqrt
+
+
+def voltage_factor(tolerance, volts):
+    """c in hundredths."""
+    if volts > 1000:
+        return 110
+    return {6: 105, 10: 110}[tolerance]
+
+
+@lru_cache(None)
+def sine(p):
+    """In ten-thousandths, the least s with s^2 >= 10^8 - 10^4 p^2."""
+    return next(s for s in range(10_001) if s * s >= 10**8 - 10**4 * p * p)
+
+
+def ux(uk, ur):
+    """The greatest whole number with ux^2 <= uk^2 - uR^2."""
+    return isqrt(uk * uk - ur * ur)
+
+
+@lru_cache(None)
+def f(rho):
+    """In millionths, the greatest whole number with f^2 (10,000 + rho^2) <= 10^16."""
+    low, high = 0, 10**6 + 1
+    while high - low > 1:
+        middle = (low + high) // 2
+        if middle * middle * (10_000 + rho * rho) <= 10**16:
+            low = middle
+        else:
+            high = middle
+    return low
+
+
+@lru_cache(None)
+def t(y):
+    """The sum of y^k/k! for k = 0 to 24."""
+    return sum(y**k / factorial(k) for k in range(25))
+
+
+def peak_factor(i):
+    """In thousandths, 1,020 + the least whole number not below 980/T(3i/100); past the table's end its last entry."""
+    quotient = 980 / t(Fraction(3 * min(i, 230), 100))
+    return 1020 - (-quotient.numerator // quotient.denominator)
