@@ -52,7 +52,7 @@ pub fn is_nothing(z: Complex) -> bool
     z.re + z.im == 0.0
 }
 
-// One over z, and nothing for nothing.
+// One over z, each step rounded. Nothing, and what is so small that its square is 0 in f64, is given back as it is.
 pub fn inverse(z: Complex) -> Complex
     ensures { λ r. ⌜ r ≡ inverted z ⌝ }
 {
@@ -78,7 +78,7 @@ pub fn scale(z: Complex, p: u32, q: u32) -> Complex
     }
 }
 
-// The greatest whole number whose square is at most margin/2^30 times p/q of |z|².
+// The greatest whole number whose square is at most margin/2^30 times p/q of |z|², as f64 calculates it.
 fn size_below(z: Complex, p: u16, q: u16, margin: u32) -> u64
     ensures { λ r. ⌜ r ≡ sizeBelow margin p q z ⌝ }
 {
@@ -94,7 +94,7 @@ fn wide(x: u16) -> u64
     x as u64
 }
 
-// A whole number not above √(p/q)·|z|.
+// A whole number not above √(p/q)·|z|, for sizes in range (specs/Amperes.antt).
 pub fn lower(z: Complex, p: u16, q: u16) -> u64
     ensures { λ r. ⌜ r ≡ lowerOf p q z ⌝ }
 {
@@ -104,7 +104,7 @@ pub fn lower(z: Complex, p: u16, q: u16) -> u64
     size_below(z, p, q, 1073741823)
 }
 
-// A whole number not below √(p/q)·|z|.
+// A whole number not below √(p/q)·|z|, for sizes in range.
 pub fn upper(z: Complex, p: u16, q: u16) -> u64
     ensures { λ r. ⌜ r ≡ upperOf p q z ⌝ }
 {
@@ -114,7 +114,7 @@ pub fn upper(z: Complex, p: u16, q: u16) -> u64
     size_below(z, p, q, 1073741825) + 1
 }
 
-// Whole numbers on both sides of √(p/q)·|z|.
+// Whole numbers on both sides of √(p/q)·|z|, for sizes in range.
 pub fn enclose(z: Complex, p: u16, q: u16) -> Bounds
     ensures { λ r. ⌜ r ≡ boundsOf p q z ⌝ }
 {

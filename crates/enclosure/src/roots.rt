@@ -24,7 +24,7 @@ pub fn root_up(x: u64) -> u64
     root(x - 1) + 1
 }
 
-// The greatest whole number below 2^53 whose square is at most m, bit by bit.
+// The greatest whole number below 2^53 whose square, rounded, is at most m, bit by bit.
 pub fn root_below(m: f64) -> u64
     ensures { λ r. ⌜ r ≡ rootBelow m ⌝ }
 {
