@@ -54,7 +54,8 @@ def ends(row, field, low, high, ground, others=None):
     return found
 
 
-def single_field_misses():
+def bus_field_misses():
+    """Ratings and branch fields, at both ends of each range."""
     found = []
     for field in (RATING, PEAK_RATING):
         for row in (ROOT, LINE_ROW, TRANSFORMER_ROW):
@@ -78,6 +79,12 @@ def single_field_misses():
         found += ends(TRANSFORMER_ROW, FIFTH, 0, uk - 1, 5, {(TRANSFORMER_ROW, FOURTH): uk})
     found += ends(TRANSFORMER_ROW, FIRST, 18000, 22000, 7)
     found += ends(TRANSFORMER_ROW, SECOND, 360, 440, 7)
+    return found
+
+
+def source_field_misses():
+    """Fields and rated volts of sources, at both ends of each range."""
+    found = []
     for row, field, low, high in (
         (FEEDER_ROW, ONE, 1000, 10**8),
         (FEEDER_ROW, TWO, 0, 200),
@@ -97,6 +104,12 @@ def single_field_misses():
         found += ends(row, field, low, high, 12)
     for row in (GENERATOR_ROW, MOTOR_ROW):
         found += ends(row, ONE, 360, 440, 13)
+    return found
+
+
+def reference_misses():
+    """Buses that are not there, kinds that are none, and a line between two voltages."""
+    found = []
     for row, count in ((FEEDER_ROW, 1), (GENERATOR_ROW, 3), (MOTOR_ROW, 3), (CONVERTER_ROW, 3)):
         for bus in (count, count + 1, 64, GREATEST):
             rows = changed(BASE, {(row, SOURCE_BUS): bus})
@@ -117,6 +130,10 @@ def single_field_misses():
         rows = changed(BASE, {(LINE_ROW, VOLTS): volts})
         found.append(miss(f"ground 6: line to {volts} V", rows, 6, LINE_ROW))
     return found
+
+
+def single_field_misses():
+    return bus_field_misses() + source_field_misses() + reference_misses()
 
 
 def lone_bus(volts, feeder=(1, 0, 500000, 10, 0, 0, 0)):

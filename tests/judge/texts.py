@@ -65,25 +65,31 @@ def field_faults():
     return found
 
 
-def row_faults():
-    """Wrong letters, wrong counts of fields, and lost, doubled or lone CR and LF."""
+def broken(name, text, row):
+    return NearMiss(f"ground 16: {name}", text, 16, row)
+
+
+def letter_faults():
+    """Wrong letters and wrong counts of fields."""
     found = []
-
-    def add(name, text, number, row):
-        found.append(NearMiss(f"ground {number}: {name}", text, number, row))
-
     root, feeder = (write_row(*row) for row in lone_bus(20000))
     starts = [b"s,6", b"S", b"S,", b"S,6,", b"S,6,0", b"6", b"B,6", b",6", b"SS,6", b"", b"S;6"]
     for first in starts:
-        add(f"row 1 is {first!r}", b"\r\n".join([first, root, feeder]), 16, 1)
-    add("no start", b"\r\n".join([root, feeder]), 16, 1)
-    add("start last", b"\r\n".join([root, feeder, b"S,6"]), 16, 1)
+        found.append(broken(f"row 1 is {first!r}", b"\r\n".join([first, root, feeder]), 1))
+    found.append(broken("no start", b"\r\n".join([root, feeder]), 1))
+    found.append(broken("start last", b"\r\n".join([root, feeder, b"S,6"]), 1))
     head = b"S,6\r\n" + root + b"\r\n"
     wrong_rows = [b"S,6", b"S,7", b"b" + root[1:], b"p" + feeder[1:], root + b",0", feeder + b","]
     wrong_rows += [root[:-5], feeder[:-2], b"P" + root[1:], b"B" + feeder[1:], b"X,1", b",", b""]
     wrong_rows += [b"BP" + feeder[1:], b"#", b'"P"' + feeder[1:], b" " + feeder, feeder + b" "]
     for wrong in wrong_rows:
-        add(f"row 3 is {wrong!r}", head + wrong + b"\r\n" + feeder, 16, 3)
+        found.append(broken(f"row 3 is {wrong!r}", head + wrong + b"\r\n" + feeder, 3))
+    return found
+
+
+def line_end_faults():
+    """Lost, doubled or lone CR and LF."""
+    found = []
     for row, i in enumerate(i for i in range(len(SMALL)) if SMALL[i] == 13):
         row += 1
         behind = row + 1
@@ -98,9 +104,15 @@ def row_faults():
             ("CR behind", b"\r\n\r", behind),
             ("doubled end", b"\r\n\r\n", behind),
         ):
-            add(f"{name} behind row {row}", before + mark + after, 16, at)
+            found.append(broken(f"{name} behind row {row}", before + mark + after, at))
         if not last:
-            add(f"lost end behind row {row}", before + after, 16, row)
+            found.append(broken(f"lost end behind row {row}", before + after, row))
+    return found
+
+
+def whole_text_faults():
+    """Texts that have no row in order at all."""
+    found = []
     for name, text in (
         ("empty", b""),
         ("CRLF alone", b"\r\n"),
@@ -111,8 +123,12 @@ def row_faults():
         ("byte order mark", b"\xef\xbb\xbf" + SMALL),
         ("all bytes", bytes(range(256))),
     ):
-        add(name, text, 16, 1)
+        found.append(broken(name, text, 1))
     return found
+
+
+def row_faults():
+    return letter_faults() + line_end_faults() + whole_text_faults()
 
 
 def company_of_form():
