@@ -1,4 +1,4 @@
--- Document 01, "Worked points": the starred points of the factors, as one table; the impedances behind two others; a peak.
+-- Document 01, "Worked points": the starred points of the factors, as one table; the generator unit; a feeder's current and peak.
 -- Assumes nothing.
 use Prim.Native.Nat.{ℕ, _+_, _*_, _≤_, _<_}
 use mathlib.Core.Path.{_≡_, refl}
@@ -10,7 +10,7 @@ use Rattle.elements.specs.Factors.{factorC, sineOf, uxOf, splitOf}
 use Rattle.elements.specs.Exponential.{tOver, tUnder, over, under}
 use Rattle.elements.specs.PeakTable.{peakFactor, ceiling}
 use Rattle.elements.specs.Peak.{PeakBound, crest, peakOver, peakUnder, peak-bound}
-use Rattle.elements.specs.Impedance.{line, transformer, split, feeder, generator, converter}
+use Rattle.elements.specs.Impedance.{transformer, split, feeder, generator}
 
 pub record Starred : Type 0 where
   -- "Sine: 100→0, 90→4,359, 80→6,000, 70→7,142."
@@ -49,19 +49,6 @@ starred = record {
   k-229 = refl;
   k-230 = refl;
 }
-
--- x is the point (re + j·im)/den
-abbrev Equals : Point → ℕ → ℕ → ℕ → Type 0
-Equals x re im den = (x .re * den ≡ re * x .den) × (x .im * den ≡ im * x .den)
-
--- the worked network's parts: feeder 1.1 Ω, line 1.1 Ω, generator 2.2 Ω (all reactance), converter 200 A
-pub network-parts :
-    Equals (feeder 6 10000 100000 0) 0 11 10
-    × Equals (line 0 1000 1100 1) 0 11 10
-    × Equals (generator 6 10000 10000 10000 20000 0 100) 0 22 10
-    × Equals (converter 1000 200) 200 0 1
-unfolding feeder split line generator converter factorC sineOf splitOf rootOf rootUp
-network-parts = ((refl, refl), (refl, refl), (refl, refl), (refl, refl))
 
 -- "Document 000's generator unit (690 V, 950 kVA, xd 18 %, tolerance 10): near 15.63 + j101.18 Ω at 20 kV": R/X 0.15, power
 -- factor 0.9; its transformer 20,000/690 V, 1,000 kVA, uk 6 %, uR 1 %

@@ -34,6 +34,6 @@ module _ {A B : Type 0} (o : Ops A) (o′ : Ops B) (R : ℕ → A → B → Type
 
 -- AN EXAMPLE of what a level costs; nothing rests on it. In f64, with 4 parts in 2 ^ 53 for a sum, 13 for an inverse and 8 for a scaling,
 -- 37 levels of elements within 1,000 parts come to 2,850 parts. Demand 3 rests on the walk over the tree, `units` in the network's
--- Claim, which comes to 12,243 parts for 64 buses. Amperes proves the width for up to 1,000,000 parts
+-- Claim. Amperes proves the width for up to 1,000,000 parts
 pub thirty-seven : 1000 + (4 + 13 + 4 + 8 + 8 + 13) * 37 ≤ 1000000
 thirty-seven = omega arith

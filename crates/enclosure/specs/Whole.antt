@@ -39,9 +39,9 @@ sub-cross x y p q a b c d h k =
     let v : c * d * (y * p) ≡ p * q * (b * c) = simp (mul-assoc, mul-comm, mul-left-comm) (simp (mul-assoc, mul-comm, mul-left-comm) at (ap (λ (z : ℕ). z * (p * c)) k)) in
     mul-comm (x * q - y * p) (c * d) ∙ mul-sub (c * d) (x * q) (y * p) ∙ ap (λ (z : ℕ). z - c * d * (y * p)) u ∙ ap (λ (z : ℕ). p * q * (a * d) - z) v ∙ sym (mul-sub (p * q) (a * d) (b * c)) ∙ mul-comm (p * q) (a * d - b * c)
 
-pick : (f : Format) (a b c : ℕ) → b ≤ a → sum f false a true b c ≡ round f false (a - b) c
+sum-minus : (f : Format) (a b c : ℕ) → b ≤ a → sum f false a true b c ≡ round f false (a - b) c
 unfolding sum
-pick f a b c h = go (ltb a b) (ltb→lt a b)
+sum-minus f a b c h = go (ltb a b) (ltb→lt a b)
   where
     go : (t : Bool) → (T t → a < b) → cond t (round f true (b - a) c) (round f false (a - b) c) ≡ round f false (a - b) c
     go true k = absurd (not-le-of-lt (k tt) h)
@@ -56,7 +56,7 @@ sub-at f (fin true m e) y a c b d C D h k l = absurd (true≢false (h .0))
 sub-at f (fin false m e) (fin true n g) a c b d C D h k l = absurd (true≢false (k .0))
 sub-at f (fin false m e) (fin false n g) a c b d C D h k l =
     opened f m e n g
-    ∙ pick f (m * up e * down g) (n * up g * down e) (down e * down g) (transfer (n * up g) (m * up e) (down g) (down e) b a d c D C (k .1) (h .1) l)
+    ∙ sum-minus f (m * up e * down g) (n * up g * down e) (down e * down g) (transfer (n * up g) (m * up e) (down g) (down e) b a d c D C (k .1) (h .1) l)
     ∙ round-same f false (m * up e * down g - n * up g * down e) (down e * down g) (a * d - b * c) (c * d) (mul-pos (down-pos e) (down-pos g)) (mul-pos C D)
     (sub-cross (m * up e) (n * up g) (down e) (down g) a b c d (h .1) (k .1))
 

@@ -13,7 +13,7 @@ use Rattle.enclosure.specs.declared.Complex.{Complex}
 use Rattle.enclosure.specs.Doubles.{nought, none, added}
 use Rattle.tree.specs.Sums.{sumOf, sum-more}
 use Rattle.network.specs.Network.{maxBuses}
-use Rattle.network.specs.Tables.{numberAt, pointAt}
+use Rattle.network.specs.Columns.{numberAt, pointAt}
 
 -- the array v holds f of each record of l, and f of the blank record past the last one
 abbrev pub Filled : {X Y : Type 0} → (X → Y) → X → Y → List X → List Y → Type 0

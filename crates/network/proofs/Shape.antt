@@ -14,7 +14,7 @@ use Rattle.network.specs.declared.columns.Entry.the-variants.{Parent, Ab
 use Rattle.network.specs.Network.{Network, maxBuses, busAt}
 use Rattle.network.specs.Grid.{gridOf}
 use Rattle.network.specs.Rounded.{branchesBy, ownBy, convertersBy, seenAt, carriedAt}
-use Rattle.network.specs.Tables.{entryOf, numberAt, pointAt, tableGrid}
+use Rattle.network.specs.Columns.{entryOf, numberAt, pointAt, columnGrid}
 
 -- what `column` ensures
 abbrev Column : Network → Entry → List ℕ → Type 0
@@ -25,7 +25,7 @@ column-number n entry v h i l = rw (lt-ltb i maxBuses l) (h i l)
 
 module _ (n : Network) (count : ℕ) (parents above below : List ℕ) (whole : count ≡ length (n .buses)) (small : length (n .buses) ≤ maxBuses)
     (p : Column n Parent parents) (a : Column n Above above) (q : Column n Below below) where
-  same-shape : Shaped (tableGrid count parents above below) (gridOf n)
+  same-shape : Shaped (columnGrid count parents above below) (gridOf n)
   same-shape = record {
     count = whole;
     parent = λ i l. column-number n Parent parents p i (omega arith);
@@ -34,14 +34,14 @@ module _ (n : Network) (count : ℕ) (parents above below : List ℕ) (whole : c
   }
 
   pub seen-columns : (zr zi yr yi : List Float) → ((i : ℕ) → i < maxBuses → pointAt zr zi i ≡ branchesBy n i) → ((b : ℕ) → b < maxBuses → pointAt yr yi b ≡ ownBy n b)
-      → (b : ℕ) → b < length (n .buses) → seenBy doubles (pointAt zr zi) (pointAt yr yi) (tableGrid count parents above below) 37 b b ≡ seenAt n b
+      → (b : ℕ) → b < length (n .buses) → seenBy doubles (pointAt zr zi) (pointAt yr yi) (columnGrid count parents above below) 37 b b ≡ seenAt n b
   unfolding seenAt
   seen-columns zr zi yr yi hz hy b l =
-      seen-same doubles (pointAt zr zi) (branchesBy n) (pointAt yr yi) (ownBy n) (tableGrid count parents above below) (gridOf n) same-shape
+      seen-same doubles (pointAt zr zi) (branchesBy n) (pointAt yr yi) (ownBy n) (columnGrid count parents above below) (gridOf n) same-shape
       (λ i z m. hz i (omega arith)) (λ i m. hy i (omega arith)) 37 b b (omega arith)
 
   pub carried-columns : (xr xi : List Float) → ((b : ℕ) → b < maxBuses → pointAt xr xi b ≡ convertersBy n b)
-      → (b : ℕ) → b < length (n .buses) → carriedBy doubles (pointAt xr xi) (tableGrid count parents above below) b ≡ carriedAt n b
+      → (b : ℕ) → b < length (n .buses) → carriedBy doubles (pointAt xr xi) (columnGrid count parents above below) b ≡ carriedAt n b
   unfolding carriedAt
   carried-columns xr xi hx b l =
-      carried-same doubles (pointAt xr xi) (convertersBy n) (tableGrid count parents above below) (gridOf n) same-shape (λ i m. hx i (omega arith)) b (omega arith)
+      carried-same doubles (pointAt xr xi) (convertersBy n) (columnGrid count parents above below) (gridOf n) same-shape (λ i m. hx i (omega arith)) b (omega arith)

@@ -7,17 +7,17 @@ use Rattle.enclosure.specs.Doubles.{empty, sizeBelow, lowerOf, upperOf}
 use Rattle.enclosure.specs.Climb.{size-small}
 use Rattle.elements.specs.Currents.{machinePeakBy, converterPeakBy}
 
-picked : (t : Bool) (n m : ℕ) → n ≤ m → cond t 0 n ≤ m
-picked true n m h = omega arith
-picked false n m h = h
+cond-most : (t : Bool) (n m : ℕ) → n ≤ m → cond t 0 n ≤ m
+cond-most true n m h = omega arith
+cond-most false n m h = h
 
 pub lower-most : (p q : ℕ) (z : Complex) → lowerOf p q z ≤ 2 ^ 53
 unfolding lowerOf
-lower-most p q z = picked (empty z) (sizeBelow 1073741823 p q z) (2 ^ 53) (omega (arith, size-small 1073741823 p q z))
+lower-most p q z = cond-most (empty z) (sizeBelow 1073741823 p q z) (2 ^ 53) (omega (arith, size-small 1073741823 p q z))
 
 pub upper-most : (p q : ℕ) (z : Complex) → upperOf p q z ≤ 2 ^ 53
 unfolding upperOf
-upper-most p q z = picked (empty z) (sizeBelow 1073741825 p q z + 1) (2 ^ 53) (omega (arith, size-small 1073741825 p q z))
+upper-most p q z = cond-most (empty z) (sizeBelow 1073741825 p q z + 1) (2 ^ 53) (omega (arith, size-small 1073741825 p q z))
 
 pub machine-peak-most : (c volts : ℕ) (y : Complex) → machinePeakBy c volts y ≤ 2 ^ 53
 unfolding machinePeakBy

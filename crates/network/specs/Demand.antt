@@ -44,7 +44,7 @@ NotAbove v Z i = 30000 * (i * i) * norm (Z .re) (Z .im) ≤ v * v * (Z .den * Z 
 abbrev pub NotBelow : ℕ → Point → ℕ → Type 0
 NotBelow v Z i = v * v * (Z .den * Z .den) ≤ 30000 * (i * i) * norm (Z .re) (Z .im)
 
--- "at most 2 A plus a thousandth of the upper apart"
+-- at most 2 A plus a thousandth of the upper apart
 abbrev pub Narrow : ℕ → ℕ → Type 0
 Narrow lower upper = 1000 * upper ≤ 1000 * (lower + 2) + upper
 

@@ -25,7 +25,6 @@ pub record LineRanges (b : Bus) : Type 0 where
   pub metres-most : b .f3 ≤ 200000
   pub circuits : 1 ≤ b .f4
   pub circuits-most : b .f4 ≤ 8
-  pub unused : b .f5 ≡ 0
 
 line-fields : (b : Bus) → all (lineTests b) ≡ true → LineRanges b
 line-fields b e =
@@ -40,7 +39,6 @@ line-fields b e =
       metres-most = m .1;
       circuits = c .0;
       circuits-most = c .1;
-      unused = omega (arith, eqb-true);
     }
 
 pub record TransformerRanges (b : Bus) : Type 0 where
@@ -84,24 +82,13 @@ pub record GeneratorRanges (p : Source) : Type 0 where
   pub xd : 1000 ≤ p .f3
   pub xd-most : p .f3 ≤ 100000
   pub ratio : p .f4 ≤ 200
-  pub factor : 70 ≤ p .f5
-  pub factor-most : p .f5 ≤ 100
 
 generator-fields : (p : Source) → all (generatorTests p) ≡ true → GeneratorRanges p
 generator-fields p e =
     let h = all-true (generatorTests p) e in
     let s = within-true (p .f2) 10 1000000 (h .0) in
     let x = within-true (p .f3) 1000 100000 (h .1 .0) in
-    let f = within-true (p .f5) 70 100 (h .1 .1 .1 .0) in
-    record {
-      kVA = s .0;
-      kVA-most = s .1;
-      xd = x .0;
-      xd-most = x .1;
-      ratio = omega (arith, leb-true);
-      factor = f .0;
-      factor-most = f .1;
-    }
+    record { kVA = s .0; kVA-most = s .1; xd = x .0; xd-most = x .1; ratio = omega (arith, leb-true) }
 
 pub record MotorRanges (p : Source) : Type 0 where
   pub kVA : 1 ≤ p .f2

@@ -20,5 +20,5 @@ pub mod Claim
 pub mod Same
 pub mod VerdictLaw
 pub mod Worked
-pub mod Tables
+pub mod Columns
 pub mod Promise

@@ -28,10 +28,10 @@ pub record Kept (cs : List Call) (b : ℕ) (f : Found) : Type 0 where
   pub accepted : f .number ≡ 0
   -- demand 3
   pub demand : Demand (run cs) b (f .amperes)
-  -- "The verdict": of the six whole numbers that the amperes are
+  -- "Verdict": of the six whole numbers that the amperes are
   pub verdict : (g : Figures) → Whole (f .amperes) g
       → f .verdict ≡ verdictOn (g .lower + g .«converters_lower») (g .upper + g .«converters_upper») (g .peak + g .«converters_peak») (busAt (run cs .buses) b .rating) (busAt (run cs .buses) b .«peak_rating»)
-  -- "Any two accepted networks alike in all but their converters get, at every bus, the same bounds and the same peak for the machines' part"
+  -- demand 3: any two accepted networks alike in all but their converters get, at every bus, the same bounds and peak for the machines' part
   pub same : (ds : List Call) → run ds .closed ≡ true → Alike (run cs) (run ds) → machinesOf (f .amperes) ≡ machinesOf (amperesGiven (run ds) b)
 
 abbrev pub Promise : Network → ℕ → Found → Type 0

@@ -4,7 +4,7 @@ ghost use Prim.Native.Nat.{ℕ, _<_};
 ghost use lib.ListN.{getD};
 ghost use Rattle.network.specs.Network.{maxBuses, network, busAt};
 ghost use Rattle.network.specs.Rounded.{branchesBy};
-ghost use Rattle.network.specs.Tables.{entryOf, counts, given, standing, numberAt, pointAt};
+ghost use Rattle.network.specs.Columns.{entryOf, counts, given, standing, numberAt, pointAt};
 use crate::BUSES;
 use crate::Bus;
 use crate::Source;

@@ -3,7 +3,7 @@ ghost use mathlib.Core.Path.{_≡_};
 ghost use Prim.Native.Nat.{ℕ};
 ghost use Rattle.enclosure.specs.Doubles.{doubles};
 ghost use Rattle.tree.specs.Converters.{toRoot, fromRoot, gathered, carriedBy};
-ghost use Rattle.network.specs.Tables.{pointAt, tableGrid};
+ghost use Rattle.network.specs.Columns.{pointAt, columnGrid};
 use crate::BUSES;
 use crate::columns::number_at;
 use crate::columns::point_at;
@@ -21,7 +21,7 @@ fn to_root(
     b: usize,
     x: Complex,
 ) -> Complex
-    ensures { λ r. ⌜ ((n : ℕ) → r ≡ toRoot doubles (tableGrid n (now (parents .entry)) (now (above .entry)) (now (below .entry))) b x) ⌝ }
+    ensures { λ r. ⌜ ((n : ℕ) → r ≡ toRoot doubles (columnGrid n (now (parents .entry)) (now (above .entry)) (now (below .entry))) b x) ⌝ }
 {
     let parent = parent_of(parents, b);
     if parent < b {
@@ -39,7 +39,7 @@ fn from_root(
     b: usize,
     x: Complex,
 ) -> Complex
-    ensures { λ r. ⌜ ((n : ℕ) → r ≡ fromRoot doubles (tableGrid n (now (parents .entry)) (now (above .entry)) (now (below .entry))) b x) ⌝ }
+    ensures { λ r. ⌜ ((n : ℕ) → r ≡ fromRoot doubles (columnGrid n (now (parents .entry)) (now (above .entry)) (now (below .entry))) b x) ⌝ }
 {
     let parent = parent_of(parents, b);
     if parent < b {
@@ -58,7 +58,7 @@ fn gathered_at_root(
     im: &[f64; BUSES],
     n: usize,
 ) -> Complex
-    ensures { λ r. ⌜ r ≡ gathered doubles (pointAt (now (re .entry)) (now (im .entry))) (tableGrid n (now (parents .entry)) (now (above .entry)) (now (below .entry))) n ⌝ }
+    ensures { λ r. ⌜ r ≡ gathered doubles (pointAt (now (re .entry)) (now (im .entry))) (columnGrid n (now (parents .entry)) (now (above .entry)) (now (below .entry))) n ⌝ }
 {
     let mut total = nothing();
     let mut i: usize = 0;
@@ -80,7 +80,7 @@ pub(crate) fn carried(
     n: usize,
     b: usize,
 ) -> Complex
-    ensures { λ r. ⌜ r ≡ carriedBy doubles (pointAt (now (re .entry)) (now (im .entry))) (tableGrid n (now (parents .entry)) (now (above .entry)) (now (below .entry))) b ⌝ }
+    ensures { λ r. ⌜ r ≡ carriedBy doubles (pointAt (now (re .entry)) (now (im .entry))) (columnGrid n (now (parents .entry)) (now (above .entry)) (now (below .entry))) b ⌝ }
 {
     let x = gathered_at_root(parents, above, below, re, im, n);
     from_root(parents, above, below, b, x)

@@ -6,7 +6,7 @@ ghost use Rattle.network.specs.Network.{network};
 ghost use Rattle.enclosure.specs.Doubles.{doubles};
 ghost use Rattle.tree.specs.Grid.{seenBy};
 ghost use Rattle.network.specs.Rounded.{figuresBy, amperesOf, amperesAt};
-ghost use Rattle.network.specs.Tables.{pointAt, tableGrid};
+ghost use Rattle.network.specs.Columns.{pointAt, columnGrid};
 use crate::Amperes;
 use crate::BUSES;
 use crate::Study;
@@ -40,7 +40,7 @@ fn seen_at(
     n: usize,
     b: usize,
 ) -> Complex
-    ensures { λ r. ⌜ r ≡ seenBy doubles (pointAt (z .re) (z .im)) (pointAt (own .re) (own .im)) (tableGrid n (now (parents .entry)) (now (above .entry)) (now (below .entry))) 37 b b ⌝ }
+    ensures { λ r. ⌜ r ≡ seenBy doubles (pointAt (z .re) (z .im)) (pointAt (own .re) (own .im)) (columnGrid n (now (parents .entry)) (now (above .entry)) (now (below .entry))) 37 b b ⌝ }
 {
     let z_re = z.re;
     let z_im = z.im;

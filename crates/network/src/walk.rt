@@ -5,7 +5,7 @@ ghost use Prim.Native.Nat.{ℕ};
 ghost use Rattle.enclosure.specs.Doubles.{doubles};
 ghost use Rattle.tree.specs.Walk.{near};
 ghost use Rattle.tree.specs.Grid.{square, through, seenBy};
-ghost use Rattle.network.specs.Tables.{numberAt, pointAt, tableGrid};
+ghost use Rattle.network.specs.Columns.{numberAt, pointAt, columnGrid};
 use crate::BUSES;
 use crate::columns::number_at;
 use crate::columns::point_at;
@@ -56,7 +56,7 @@ fn seen_through(
     i: usize,
     y: Complex,
 ) -> Complex
-    ensures { λ r. ⌜ ((n : ℕ) (parents : List ℕ) → r ≡ through doubles (pointAt (now («z_re» .entry)) (now («z_im» .entry))) (tableGrid n parents (now (above .entry)) (now (below .entry))) b i y) ⌝ }
+    ensures { λ r. ⌜ ((n : ℕ) (parents : List ℕ) → r ≡ through doubles (pointAt (now («z_re» .entry)) (now («z_im» .entry))) (columnGrid n parents (now (above .entry)) (now (below .entry))) b i y) ⌝ }
 {
     if is_nothing(y) {
         return nothing();
@@ -84,7 +84,7 @@ pub(crate) fn seen(
     b: usize,
     w: usize,
 ) -> Complex
-    ensures { λ r. ⌜ r ≡ seenBy doubles (pointAt (now («z_re» .entry)) (now («z_im» .entry))) (pointAt (now («own_re» .entry)) (now («own_im» .entry))) (tableGrid n (now (parents .entry)) (now (above .entry)) (now (below .entry))) fuel b w ⌝ }
+    ensures { λ r. ⌜ r ≡ seenBy doubles (pointAt (now («z_re» .entry)) (now («z_im» .entry))) (pointAt (now («own_re» .entry)) (now («own_im» .entry))) (columnGrid n (now (parents .entry)) (now (above .entry)) (now (below .entry))) fuel b w ⌝ }
 {
     let mut total = point_at(own_re, own_im, b);
     if fuel == 0 {

@@ -16,7 +16,7 @@ crlf = cr ∷ lf ∷ []
 abbrev pub refused : List ℕ
 refused = 114 ∷ 101 ∷ 102 ∷ 117 ∷ 115 ∷ 101 ∷ 100 ∷ []
 
--- "its number, the six amperes as plain decimal integers, W, O or C, comma separated, CRLF"
+-- "its number, the six amperes as plain decimal integers, W, O or C (within, over, close), comma separated, CRLF"
 unfoldable pub busRow : ℕ → Amperes → Verdict → List ℕ
 busRow bus a v = decimal bus ++ amperesText a ++ letterText v ++ crlf
 

@@ -112,3 +112,8 @@ refused-run text h =
     by-test (within (length text) 1 maxBytes)
     (λ t. rw t (from-refused 0 emptyNetwork (rows text) (rw t at h)))
     (λ t. rw t)
+
+-- whatever calls follow
+pub refused-then : (text : List ℕ) → (readOf text .number ≡ 0 → ⊥) → (cs : List Call) → runFrom (readOf text .network) cs ≡ run (starting 6 ∷ cs)
+unfolding run
+refused-then text h cs = rw (refused-run text h)

@@ -1,3 +1,4 @@
+// The fields of a row between its commas, each a part of the caller's text, and the numbers that they say.
 ghost use mathlib.Core.Path.{_≡_};
 ghost use Prim.Native.Nat.{_+_, _≤_};
 ghost use lib.ListN.{length, drop};

@@ -1,3 +1,4 @@
+// The rows of a text between their CRLF, each a part of the caller's text, and the records that they say.
 ghost use mathlib.Core.Path.{_≡_};
 ghost use Prim.Native.Nat.{_+_, _≤_, _<_};
 ghost use lib.ListN.{length, take, drop};

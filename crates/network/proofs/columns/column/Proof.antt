@@ -5,7 +5,7 @@ use native.Mathlib.Omega.{arith}
 use lib.ListN.{length, take, replicate}
 use borrow.Author.Needs.{needs}
 use Rattle.network.specs.Network.{maxBuses, network, busAt, blank as blankBus}
-use Rattle.network.specs.Tables.{entryOf}
+use Rattle.network.specs.Columns.{entryOf}
 use Rattle.network.proofs.Filling.{Filled, filled-none, filled-more, filled-all}
 use Rattle.network.proofs.columns.column.Statement.{statement}
 use Rattle.network.proofs.columns.column.Tie as tie

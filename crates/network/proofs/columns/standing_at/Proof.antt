@@ -13,7 +13,7 @@ use Rattle.enclosure.specs.Doubles.{added}
 use Rattle.network.specs.declared.Bus.{Bus}
 use Rattle.network.specs.declared.Source.{Source}
 use Rattle.network.specs.declared.Study.{Study}
-use Rattle.network.specs.Tables.{pointAt, counts, given}
+use Rattle.network.specs.Columns.{pointAt, counts, given}
 use Rattle.network.proofs.Filling.{Stands, stands-none, stands-all, stands-more, stands-passed, filled-number}
 use Rattle.network.proofs.Lists.{length-mapped, within-array, read-counted, count-most}
 use Rattle.network.proofs.columns.standing_at.Statement.{statement}

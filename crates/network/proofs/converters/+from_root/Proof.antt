@@ -2,7 +2,7 @@ use mathlib.Core.Path.{sym}
 use native.Mathlib.Omega.{arith}
 use Rattle.enclosure.specs.Doubles.{doubles}
 use Rattle.tree.specs.Converters.{fromRoot-more, fromRoot-end}
-use Rattle.network.specs.Tables.{numberAt, tableGrid}
+use Rattle.network.specs.Columns.{numberAt, columnGrid}
 use Prim.Native.Nat.{ℕ, _<_}
 use borrow.Fn.Kinds.{In}
 use borrow.Fn.PlainCycle.{Measures, is, falls, and}
@@ -49,12 +49,12 @@ from-root-returns t c =
     let a = c .before .before .before .before .before .before .args in
     let p = c .before .before .before .before .before .parent-of in
     let h : numberAt (a .parents .now) (a .b) < a .b = omega (arith, p .ensures, c .before .before .before .before .if1 .taken) in
-    λ n. rw (fromRoot-more doubles (tableGrid n (a .parents .now) (a .above .now) (a .below .now)) (a .b) (a .x) h, ← p .ensures, ← c .before .before .before .from-root .ensures n, ← c .before .before .number-at .ensures, ← c .before .number-at2 .ensures) (c .scale .ensures)
+    λ n. rw (fromRoot-more doubles (columnGrid n (a .parents .now) (a .above .now) (a .below .now)) (a .b) (a .x) h, ← p .ensures, ← c .before .before .before .from-root .ensures n, ← c .before .before .number-at .ensures, ← c .before .number-at2 .ensures) (c .scale .ensures)
 
 from-root-returns-2 : (t : ℕ) → from-root-lts.Need-returns-2 (from-root-claims t) (from-root-at t) from-root.Post
 from-root-returns-2 t c =
     let a = c .before .before .args in
-    λ n. sym (fromRoot-end doubles (tableGrid n (a .parents .now) (a .above .now) (a .below .now)) (a .b) (a .x) (omega (arith, c .before .parent-of .ensures, c .if1 .left)))
+    λ n. sym (fromRoot-end doubles (columnGrid n (a .parents .now) (a .above .now) (a .below .now)) (a .b) (a .x) (omega (arith, c .before .parent-of .ensures, c .if1 .left)))
 
 pub +from-root-spec : {M : Type 1} → statement M
 +from-root-spec = close μ-from-root λ t. from-root-lts.spec (from-root-claims t)

@@ -2,7 +2,7 @@ use mathlib.Core.Path.{sym}
 use native.Mathlib.Omega.{arith}
 use Rattle.enclosure.specs.Doubles.{doubles}
 use Rattle.tree.specs.Converters.{toRoot-more, toRoot-end}
-use Rattle.network.specs.Tables.{numberAt, tableGrid}
+use Rattle.network.specs.Columns.{numberAt, columnGrid}
 use Prim.Native.Nat.{ℕ, _<_}
 use borrow.Fn.Kinds.{In}
 use borrow.Fn.PlainCycle.{Measures, is, falls, and}
@@ -49,12 +49,12 @@ to-root-returns t c =
     let a = c .before .before .before .before .before .before .args in
     let p = c .before .before .before .before .before .parent-of in
     let h : numberAt (a .parents .now) (a .b) < a .b = omega (arith, p .ensures, c .before .before .before .before .if1 .taken) in
-    λ n. rw (toRoot-more doubles (tableGrid n (a .parents .now) (a .above .now) (a .below .now)) (a .b) (a .x) h, ← p .ensures, ← c .before .before .before .number-at .ensures, ← c .before .before .number-at2 .ensures, ← c .before .scale .ensures) (c .to-root .ensures n)
+    λ n. rw (toRoot-more doubles (columnGrid n (a .parents .now) (a .above .now) (a .below .now)) (a .b) (a .x) h, ← p .ensures, ← c .before .before .before .number-at .ensures, ← c .before .before .number-at2 .ensures, ← c .before .scale .ensures) (c .to-root .ensures n)
 
 to-root-returns-2 : (t : ℕ) → to-root-lts.Need-returns-2 (to-root-claims t) (to-root-at t) to-root.Post
 to-root-returns-2 t c =
     let a = c .before .before .args in
-    λ n. sym (toRoot-end doubles (tableGrid n (a .parents .now) (a .above .now) (a .below .now)) (a .b) (a .x) (omega (arith, c .before .parent-of .ensures, c .if1 .left)))
+    λ n. sym (toRoot-end doubles (columnGrid n (a .parents .now) (a .above .now) (a .below .now)) (a .b) (a .x) (omega (arith, c .before .parent-of .ensures, c .if1 .left)))
 
 pub +to-root-spec : {M : Type 1} → statement M
 +to-root-spec = close μ-to-root λ t. to-root-lts.spec (to-root-claims t)

@@ -1,7 +1,7 @@
 use mathlib.Core.Path.{ap, _∙_}
 use Rattle.enclosure.specs.Doubles.{doubles}
 use Rattle.tree.specs.Converters.{fromRoot}
-use Rattle.network.specs.Tables.{tableGrid}
+use Rattle.network.specs.Columns.{columnGrid}
 use borrow.Author.Needs.{needs}
 use Rattle.network.proofs.converters.carried.Statement.{statement}
 use Rattle.network.proofs.converters.carried.Tie as tie
@@ -15,7 +15,7 @@ from-root-requires c κs = search needs
 returns : tie.Need-returns
 returns c =
     let a = c .before .before .args in
-    let G = tableGrid (a .n) (a .parents .now) (a .above .now) (a .below .now) in
+    let G = columnGrid (a .n) (a .parents .now) (a .above .now) (a .below .now) in
     c .from-root .ensures (a .n) ∙ ap (fromRoot doubles G (a .b)) (c .before .gathered-at-root .ensures)
 
 pub carried-spec : {M : Type 1} → statement M

@@ -3,14 +3,14 @@ use Prim.Native.Nat.{_-_, _≤_}
 use native.Mathlib.Omega.{arith}
 use Rattle.enclosure.specs.Doubles.{added, doubles}
 use Rattle.tree.specs.Converters.{gathered, toRoot, gathered-more}
-use Rattle.network.specs.Tables.{pointAt, tableGrid}
+use Rattle.network.specs.Columns.{pointAt, columnGrid}
 use borrow.Author.Needs.{needs}
 use Rattle.network.proofs.converters.gathered_at_root.Statement.{statement}
 use Rattle.network.proofs.converters.gathered_at_root.Tie as tie
 
 abbrev Inv-loop : tie.InvT-loop
 Inv-loop parents above below re im n total₀ i₀ total i =
-    (i ≤ n) × (total ≡ gathered doubles (pointAt re im) (tableGrid n parents above below) i)
+    (i ≤ n) × (total ≡ gathered doubles (pointAt re im) (columnGrid n parents above below) i)
 
 abbrev μ-loop : tie.MeasureT-loop
 μ-loop parents above below re im n total₀ i₀ total i = n - i
@@ -40,7 +40,7 @@ loop-again : tie.Need-loop-again Inv-loop μ-loop
 loop-again c =
     let a = c .before .before .before .before .before .before .args in
     let l = c .before .before .before .before .loop in
-    let G = tableGrid (a .n) (a .parents .now) (a .above .now) (a .below .now) in
+    let G = columnGrid (a .n) (a .parents .now) (a .above .now) (a .below .now) in
     let z = pointAt (a .re .now) (a .im .now) in (
       omega arith,
       c .add .ensures
@@ -51,7 +51,7 @@ loop-again c =
 returns : tie.Need-returns Inv-loop μ-loop
 returns c =
     let a = c .before .before .before .args in
-    let G = tableGrid (a .n) (a .parents .now) (a .above .now) (a .below .now) in
+    let G = columnGrid (a .n) (a .parents .now) (a .above .now) (a .below .now) in
     let i : c .before .loop .i ≡ a .n = omega arith in
     c .before .loop .inv .1 ∙ ap (gathered doubles (pointAt (a .re .now) (a .im .now)) G) i
 

@@ -6,7 +6,7 @@ use Rattle.enclosure.specs.declared.Complex.{Complex}
 use Rattle.enclosure.specs.Doubles.{added, doubles}
 use Rattle.tree.specs.Walk.{near, over, over-more, walk-more}
 use Rattle.tree.specs.Grid.{Grid, through, admittances, parentOf, seenBy}
-use Rattle.network.specs.Tables.{pointAt, tableGrid}
+use Rattle.network.specs.Columns.{pointAt, columnGrid}
 use Prim.Native.Nat.{ℕ, _-_, _≤_, _<_}
 use borrow.Fn.Kinds.{In}
 use borrow.Fn.PlainCycle.{Measures, is, falls, and}
@@ -39,7 +39,7 @@ gathered z own G fuel b w = over added (near (parentOf G) b w) (λ j. through do
 
 abbrev seen-Inv-loop : seen-lts.InvT-loop
 seen-Inv-loop parents above below z-re z-im own-re own-im n fuel b w total₀ i₀ total i =
-    (i ≤ n) × (total ≡ gathered (pointAt z-re z-im) (pointAt own-re own-im) (tableGrid n parents above below) fuel b w i)
+    (i ≤ n) × (total ≡ gathered (pointAt z-re z-im) (pointAt own-re own-im) (columnGrid n parents above below) fuel b w i)
 
 abbrev seen-μ-loop : seen-lts.MeasureT-loop
 seen-μ-loop parents above below z-re z-im own-re own-im n fuel b w total₀ i₀ total i = n - i
@@ -81,7 +81,7 @@ seen-loop-again t c =
     let l = c .before .before .before .loop in
     let z = pointAt (a .z-re .now) (a .z-im .now) in
     let own = pointAt (a .own-re .now) (a .own-im .now) in
-    let G = tableGrid (a .n) (a .parents .now) (a .above .now) (a .below .now) in
+    let G = columnGrid (a .n) (a .parents .now) (a .above .now) (a .below .now) in
     let e = over-more added (near (parentOf G) (a .b) (a .w)) (λ (j : ℕ). through doubles z G (a .b) j (seenBy doubles z own G (a .fuel - 1) j (a .b))) (own (a .b)) (l .i) in (
       omega arith,
       ⊎-elim
@@ -97,7 +97,7 @@ seen-returns-2 t c =
     let a = c .before .before .before .before .args in
     let z = pointAt (a .z-re .now) (a .z-im .now) in
     let own = pointAt (a .own-re .now) (a .own-im .now) in
-    let G = tableGrid (a .n) (a .parents .now) (a .above .now) (a .below .now) in
+    let G = columnGrid (a .n) (a .parents .now) (a .above .now) (a .below .now) in
     let i : c .before .loop .i ≡ a .n = omega arith in
     c .before .loop .inv .1
     ∙ ap (gathered z own G (a .fuel) (a .b) (a .w)) i

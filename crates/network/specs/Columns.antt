@@ -46,8 +46,8 @@ standing converters n b =
     sumOf added (λ p. counts converters p && eqb (p .bus) b) (λ p. given converters (n .tolerance) (busAt (n .buses) (p .bus) .volts) p) none (n .sources)
 
 -- the tree of n buses that the columns stand for; what stands at its buses is given beside it
-abbrev pub tableGrid : ℕ → List ℕ → List ℕ → List ℕ → Grid
-tableGrid n parents above below = record {
+abbrev pub columnGrid : ℕ → List ℕ → List ℕ → List ℕ → Grid
+columnGrid n parents above below = record {
   count = n;
   branch = λ i. record { parent = numberAt parents i; z = nothing; above = numberAt above i; below = numberAt below i };
   own = λ b. nothing;
