@@ -95,16 +95,16 @@ def replacements(edit):
             yield file, old, rest[1:]
 
 
-def edited(edit, crate):
-    """The crate's files that the edit changes, with their new text; a KeyError says which replacement does not apply."""
+def edited(edit, folder):
+    """The files of a folder that the edit changes, with their new text; a ValueError says which replacement does not apply."""
     texts = {}
     for file, old, new in replacements(edit):
-        text = texts.get(file) or read(crate / file)
+        text = texts.get(file) or read(folder / file)
         if not old or text.count(old) != 1:
-            raise KeyError(f"an 'old:' text is not in {file} just once")
+            raise ValueError(f"an 'old:' text is not in {file} just once")
         texts[file] = text.replace(old, new)
     if not texts:
-        raise KeyError("it has no 'old:' and 'new:' pair")
+        raise ValueError("it has no 'old:' and 'new:' pair")
     return texts
 
 
@@ -120,7 +120,7 @@ def try_edit(folder, name, edit):
     crate = folder / "crates" / name
     try:
         texts = edited(edit, crate)
-    except (KeyError, OSError) as error:
+    except (ValueError, OSError) as error:
         return f"BAD EDIT: {error}"
     before = {file: read(crate / file) for file in texts}
     for file, text in texts.items():
