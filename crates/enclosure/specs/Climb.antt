@@ -24,7 +24,7 @@ doubled k = pow-suc 2 k ∙ two (2 ^ k)
     two : (n : ℕ) → n * 2 ≡ n + n
     two n = omega arith
 
-above : (low k : ℕ) → low + 2 ^ suc k ≡ low + 2 ^ k + 2 ^ k
+pub above : (low k : ℕ) → low + 2 ^ suc k ≡ low + 2 ^ k + 2 ^ k
 above low k = ap (λ (n : ℕ). low + n) (doubled k) ∙ sym (add-assoc low (2 ^ k) (2 ^ k))
 
 higher : (test : ℕ → Bool) (low s e r : ℕ) → test (low + s) ≡ true → e ≡ low + s + s → Top test (low + s) (low + s + s) r → Top test low e r

@@ -14,4 +14,5 @@ pub mod Range
 pub mod Start
 pub mod Chain
 pub mod Amperes
+pub mod Guess
 pub mod Whole

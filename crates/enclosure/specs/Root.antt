@@ -104,3 +104,10 @@ pub root-up-more : (x : ℕ) → (x ≡ 0 → ⊥) → rootOf (x - 1) + 1 ≡ ro
 unfolding rootUp
 root-up-more zero h = absurd (h refl)
 root-up-more (suc x) h = let e : suc x - 1 ≡ x = omega arith in rw (e, add-one)
+
+-- ---- a guess that is tried: below 2 ^ 32 - 1 the next number's square fits
+pub guess-fits : (n : ℕ) → n < 4294967295 → (n + 1) * (n + 1) < 2 ^ 64
+guess-fits n h = lt-of-le-of-lt (mul-le-mul {n₁ = n + 1} {m₁ = n + 1} {n₂ = 4294967295} {m₂ = 4294967295} (omega arith) (omega arith)) (lit< tt)
+
+pub guess-root : (x n : ℕ) → n * n ≤ x → x < (n + 1) * (n + 1) → n ≡ rootOf x
+guess-root x n l h = root-unique x n (rootOf x) (record { low = l; high = h }) (root-is x)

@@ -1,61 +1,35 @@
--- `enclosure::roots::root_below` meets its contract: the bits that are left to try give what the whole climb gives.
+-- `enclosure::roots::root_below` meets its contract: a guess that is tried, or bit by bit.
 -- Assumes nothing.
-use mathlib.Core.Path.{refl}
-use mathlib.Core.Bool.{Bool}
-use Prim.Native.Nat.{ℕ, _+_, _/_, _^_, _≤_}
-use native.Mathlib.Nat.{le-refl}
-use native.Mathlib.Omega.{arith}
-use lib.Dec.{le→leb}
-use lib.Ieee.{Float, le, inFloat}
-use Rattle.enclosure.specs.Doubles.{squared, rootBelow}
-use Rattle.enclosure.specs.Climb.{Left, left-next, left-taken, left-passed, left-none}
+use borrow.Author.Needs.{needs}
 use Rattle.enclosure.proofs.roots.root_below.Statement.{statement}
 use Rattle.enclosure.proofs.roots.root_below.Tie as tie
 
-abbrev small : Float → ℕ → Bool
-small m r = le (squared r) m
+guess-requires : tie.Need-guess-requires
+guess-requires c κs = search needs
 
-abbrev Inv-loop : tie.InvT-loop
-Inv-loop m low₀ step₀ bits₀ low step bits = (bits ≤ 53) × Left (small m) (rootBelow m) (2 ^ 53) low step bits
+is-root-below-requires : tie.Need-is-root-below-requires
+is-root-below-requires c κs = search needs
 
-abbrev μ-loop : tie.MeasureT-loop
-μ-loop m low₀ step₀ bits₀ low step bits = bits
+returns : tie.Need-returns
+returns c = c .before .is-root-below .ensures (c .if1 .taken)
 
-loop-holds : tie.Need-loop-holds Inv-loop μ-loop
-unfolding rootBelow
-loop-holds c = (le-refl 53, record { step = refl; room = le-refl (2 ^ 53); same = refl })
+sub-is-root-below : tie.Need-sub-is-root-below
+sub-is-root-below c = search needs
 
-sub-bits : tie.Need-sub-bits Inv-loop μ-loop
-sub-bits c = omega arith
+is-root-below-requires-2 : tie.Need-is-root-below-requires-2
+is-root-below-requires-2 c κs = search needs
 
-next : (c : tie.In-loop Inv-loop μ-loop) → c .before .loop .low + c .before .loop .step / 2 ≤ 2 ^ 53
-next c = left-next (small (c .before .before .args .m)) _ (2 ^ 53) (c .before .loop .low) (c .before .loop .step) (c .before .loop .bits) (omega arith) (c .before .loop .inv .1)
+sub-result : tie.Need-sub-result
+sub-result c = search needs
 
-add-next : tie.Need-add-next Inv-loop μ-loop
-add-next c = let h = next c in record { fits = omega arith }
+returns-2 : tie.Need-returns-2
+returns-2 c = c .before .is-root-below2 .ensures (c .if3 .taken)
 
-int-to-float-x : tie.Need-int-to-float-x Inv-loop μ-loop
-unfolding inFloat
-int-to-float-x c = le→leb _ (2 ^ 53) (next (c .before))
+root-by-bits-requires : tie.Need-root-by-bits-requires
+root-by-bits-requires c κs = search needs
 
-loop-less : tie.Need-loop-less Inv-loop μ-loop
-loop-less c = omega arith
-
-loop-again : tie.Need-loop-again Inv-loop μ-loop
-loop-again c =
-    let b = c .before .before .before in
-    (omega arith, left-taken (small (b .before .args .m)) _ (2 ^ 53) (b .loop .low) (b .loop .step) (b .loop .bits) (omega arith) (b .loop .inv .1) (c .if1 .taken))
-
-loop-less-2 : tie.Need-loop-less-2 Inv-loop μ-loop
-loop-less-2 c = omega arith
-
-loop-again-2 : tie.Need-loop-again-2 Inv-loop μ-loop
-loop-again-2 c =
-    let b = c .before .before .before in
-    (omega arith, left-passed (small (b .before .args .m)) _ (2 ^ 53) (b .loop .low) (b .loop .step) (b .loop .bits) (omega arith) (b .loop .inv .1) (c .if1 .left))
-
-returns : tie.Need-returns Inv-loop μ-loop
-returns c = left-none (small (c .before .before .args .m)) _ (2 ^ 53) (c .before .loop .low) (c .before .loop .step) (c .before .loop .bits) (omega arith) (c .before .loop .inv .1)
+returns-3 : tie.Need-returns-3
+returns-3 c = search needs
 
 pub root-below-spec : {M : Type 1} → statement M
-root-below-spec = tie.close (tie.spec Inv-loop μ-loop loop-holds sub-bits add-next int-to-float-x loop-less loop-again loop-less-2 loop-again-2 returns)
+root-below-spec = tie.close (tie.spec guess-requires is-root-below-requires returns sub-is-root-below is-root-below-requires-2 sub-result returns-2 root-by-bits-requires returns-3)
