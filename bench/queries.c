@@ -6,7 +6,7 @@
 #include <stdio.h>
 #include <time.h>
 
-double network_lowers(const char *text, size_t length, uint8_t last, uint32_t queries);
+double network_sums(const char *text, size_t length, uint8_t last, uint32_t queries);
 
 enum { RUNS = 400, AT_LEAST = 64, TEXT = 65537 };
 
@@ -25,7 +25,7 @@ static double now(void)
 
 static void proved(int queries)
 {
-    sink = network_lowers(text, length, (uint8_t)(study.buses - 1), (uint32_t)queries);
+    sink = network_sums(text, length, (uint8_t)(study.buses - 1), (uint32_t)queries);
 }
 
 static void plain(int queries)

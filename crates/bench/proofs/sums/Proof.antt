@@ -3,19 +3,19 @@ use Prim.Native.Nat.{_-_, _≤_}
 use native.Mathlib.Omega.{arith}
 use lib.Ieee.{binary64, add, ofBits}
 use Rattle.network.specs.Network.{network}
-use Rattle.bench.specs.Queries.{lowersOf, lowers-more}
+use Rattle.bench.specs.Queries.{sumOf, sumsOf, sums-more}
 use borrow.Author.Needs.{needs}
-use Rattle.bench.proofs.lowers.Statement.{statement}
-use Rattle.bench.proofs.lowers.Tie as tie
+use Rattle.bench.proofs.sums.Statement.{statement}
+use Rattle.bench.proofs.sums.Tie as tie
 
 abbrev Inv-loop : tie.InvT-loop
-Inv-loop s n k total₀ i₀ total i = (i ≤ k) × (total ≡ lowersOf (network s) n i)
+Inv-loop s n k total₀ i₀ total i = (i ≤ k) × (total ≡ sumsOf (network s) n i)
 
 abbrev μ-loop : tie.MeasureT-loop
 μ-loop s n k total₀ i₀ total i = k - i
 
 loop-holds : tie.Need-loop-holds Inv-loop μ-loop
-unfolding lowersOf ofBits
+unfolding sumsOf ofBits
 loop-holds c = (omega arith, refl)
 
 rem-query : tie.Need-rem-query Inv-loop μ-loop
@@ -32,21 +32,21 @@ loop-less c = omega arith
 
 loop-again : tie.Need-loop-again Inv-loop μ-loop
 loop-again c =
-    let a = c .before .before .before .before .before .args in
-    let l = c .before .before .before .before .loop in (
+    let l = c .before .before .before .before .before .before .before .before in
+    let a = l .before .args in (
       omega arith,
-      ap₂ (add binary64) (l .inv .1) (ap (λ x. x .lower .0) (c .before .before .query .ensures .1 .0))
-          ∙ sym (lowers-more (network (a .s)) (a .n) (l .i)),
+      ap₂ (add binary64) (l .loop .inv .1) (ap sumOf (c .before .before .before .before .before .before .query .ensures .1 .0))
+          ∙ sym (sums-more (network (a .s)) (a .n) (l .loop .i)),
     )
 
 returns : tie.Need-returns Inv-loop μ-loop
 returns c =
     let a = c .before .before .args in
     let i : c .before .loop .i ≡ a .k = omega arith in
-    c .before .loop .inv .1 ∙ ap (lowersOf (network (a .s)) (a .n)) i
+    c .before .loop .inv .1 ∙ ap (sumsOf (network (a .s)) (a .n)) i
 
-pub lowers-spec : {M : Type 1} → statement M
-lowers-spec =
+pub sums-spec : {M : Type 1} → statement M
+sums-spec =
     tie.close
     (tie.spec
     Inv-loop
