@@ -41,7 +41,14 @@ def t(y):
     return sum(y**k / factorial(k) for k in range(25))
 
 
+@lru_cache(None)
 def peak_factor(i):
     """In thousandths, 1,020 + the least whole number not below 980/T(3i/100); past the table's end its last entry."""
     quotient = 980 / t(Fraction(3 * min(i, 230), 100))
     return 1020 - (-quotient.numerator // quotient.denominator)
+
+
+def fine_factor(p):
+    """In sixteen-thousandths, at p/1,600: sixteen steps from an entry of the table to the next."""
+    i, s = divmod(p, 16)
+    return 16 * peak_factor(i) - s * (peak_factor(i) - peak_factor(i + 1))

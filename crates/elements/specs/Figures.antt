@@ -1,11 +1,11 @@
 -- From a near admittance to the machines' bounds and peak, and from a near current to the converters': they keep document 01's comparisons.
 -- Assumes nothing.
-use Prim.Native.Nat.{ℕ, zero, suc, _+_, _-_, _*_, _^_, min, _≤_, _<_}
+use Prim.Native.Nat.{ℕ, zero, suc, _+_, _-_, _*_, _^_, _≤_, _<_}
 use mathlib.Core.Path.{_≡_, refl, _∙_}
 use mathlib.Core.List.{[], _∷_}
 use mathlib.Core.Logic.{⊎-elim}
 use native.Mathlib.Omega.{arith}
-use native.Mathlib.Nat.{le-refl, lt-of-not-le, mul-le-mul, mul-pos, min-eq-left}
+use native.Mathlib.Nat.{le-refl, lt-of-not-le, mul-le-mul, mul-pos}
 use native.Mathlib.Numerals.{add-one}
 use lib.Dec.{le→leb, lit<, lit≤}
 use lib.Pow.{pow-mono}
@@ -22,9 +22,10 @@ use Rattle.enclosure.specs.Doubles.{scaled, lowerOf, upperOf}
 use Rattle.enclosure.specs.Fair.{value, size, Fine}
 use Rattle.enclosure.specs.Range.{reach, Good, good-sized, Factor, f64-rules}
 use Rattle.enclosure.specs.Amperes.{Enclosed, encloses}
-use Rattle.elements.specs.Exponential.{tOver, tUnder, t-least, tOver-pos}
-use Rattle.elements.specs.PeakTable.{peakFactor, ceiling, ceiling-least}
-use Rattle.elements.specs.Peak.{PeakBound, peakOver, peakUnder, peak-bound, Index}
+use Rattle.elements.specs.FineTable.{fineFactor, fineFactor-sized}
+use Rattle.elements.specs.Peak.{peakOver, peakUnder}
+use Rattle.elements.specs.NearPeak.{NearMachinePeak, NearConverterPeak}
+use Rattle.elements.specs.PeakLaw.{peak-near, Index}
 use Rattle.elements.specs.Place.{placeOf}
 use Rattle.elements.specs.PlaceLaw.{place-index}
 use Rattle.elements.specs.Currents.{currentBy, machinePeakBy, converterPeakBy}
@@ -52,28 +53,19 @@ squareUnder P = 30000 * (P .den * P .den)
 current-few : (c u A B D : ℕ) → c * u * (c * u) * norm A B ≤ 2 ^ 100 * (10000 * (D * D)) → 1 * norm (A * u * c) (B * u * c) ≤ 3 * (3 * 2 ^ 100 * (D * 1 * 100 * (D * 1 * 100)))
 current-few c u A B D h = from (c ∷ u ∷ A ∷ B ∷ D ∷ []) h (search read depth 40 fits 20000) refl
 
-peak-few : (K c u A B D : ℕ) → K ≤ 2000 → c * u * (c * u) * norm A B ≤ 2 ^ 100 * (10000 * (D * D)) → 2 * norm (A * u * c * K) (B * u * c * K) ≤ 3 * (3 * 2 ^ 100 * (D * 1 * 100 * 1000 * (D * 1 * 100 * 1000)))
-peak-few K c u A B D l h = from (K ∷ c ∷ u ∷ A ∷ B ∷ D ∷ []) (2 * (c * u * (c * u) * norm A B) ⋆ mul-le-mul l l ⊹ 8000000 ⋆ h) (search read depth 40 fits 20000) refl
+peak-few : (K c u A B D : ℕ) → K ≤ 32000 → c * u * (c * u) * norm A B ≤ 2 ^ 100 * (10000 * (D * D)) → 2 * norm (A * u * c * K) (B * u * c * K) ≤ 3 * (3 * 2 ^ 100 * (D * 1 * 100 * 16000 * (D * 1 * 100 * 16000)))
+peak-few K c u A B D l h = from (K ∷ c ∷ u ∷ A ∷ B ∷ D ∷ []) (2 * (c * u * (c * u) * norm A B) ⋆ mul-le-mul l l ⊹ 2048000000 ⋆ h) (search read depth 40 fits 20000) refl
 
 -- what is that small has whole bounds
 roomy : (q d X : ℕ) → X ≤ q * (3 * 2 ^ 100 * d) → X ≤ q * (2 ^ 104 * d)
 roomy q d X h = from (q ∷ d ∷ X ∷ []) h (search read depth 40 fits 20000) refl
 
-peak-over : (K c u A B D n : ℕ) → 2 * norm (A * u * c * K) (B * u * c * K) ≤ 3 * (n * n * (D * 1 * 100 * 1000 * (D * 1 * 100 * 1000))) → 2 * (c * u * (c * u) * norm A B) * (K * K) ≤ 1000000 * (30000 * (D * D) * (n * n))
+peak-over : (K c u A B D n : ℕ) → 2 * norm (A * u * c * K) (B * u * c * K) ≤ 3 * (n * n * (D * 1 * 100 * 16000 * (D * 1 * 100 * 16000))) → 2 * (c * u * (c * u) * norm A B) * (K * K) ≤ 256000000 * (30000 * (D * D) * (n * n))
 peak-over K c u A B D n h = from (K ∷ c ∷ u ∷ A ∷ B ∷ D ∷ n ∷ []) h (search read depth 40 fits 20000) refl
 
--- three below the root, a part in 2 ^ 28 is far within 0.35 %
-peak-far : (K c u A B D m : ℕ) → 268435456 * (3 * ((m + 3) * (m + 3) * (D * 1 * 100 * 1000 * (D * 1 * 100 * 1000)))) ≤ 268435457 * (2 * norm (A * u * c * K) (B * u * c * K))
-    → 100000000 * (1000000 * (30000 * (D * D) * (m * m))) ≤ 2 * (c * u * (c * u) * norm A B) * (10035 * K * (10035 * K))
-peak-far K c u A B D m h = from-over (K ∷ c ∷ u ∷ A ∷ B ∷ D ∷ m ∷ []) 268435456 (lit< tt) (100000000 ⋆ h) (search read depth 40 fits 20000) refl
-
--- K(i) is from 1,020 to 2,000
-peakFactor-sized : (i : ℕ) → (0 < peakFactor i) × (peakFactor i ≤ 2000)
-unfolding peakFactor
-peakFactor-sized i = go (ceiling (980 * tUnder 100) (tOver (3 * i) 100)) (ceiling-least (980 * tUnder 100) (tOver (3 * i) 100) 980 (tOver-pos (3 * i) 100 (lit< tt)) (mul-le-mul (le-refl 980) (t-least (3 * i) 100)))
-  where
-    go : (n : ℕ) → n ≤ 980 → (0 < 1020 + n) × (1020 + n ≤ 2000)
-    go n h = (omega arith, omega arith)
+peak-far : (K c u A B D m : ℕ) → 268435456 * (3 * (m * m * (D * 1 * 100 * 16000 * (D * 1 * 100 * 16000)))) ≤ 268435457 * (2 * norm (A * u * c * K) (B * u * c * K))
+    → 268435456 * (256000000 * (30000 * (D * D) * (m * m))) ≤ 268435457 * (2 * (c * u * (c * u) * norm A B) * (K * K))
+peak-far K c u A B D m h = from (K ∷ c ∷ u ∷ A ∷ B ∷ D ∷ m ∷ []) h (search read depth 40 fits 20000) refl
 
 -- a bound of what is below 2 ^ 50·√3 is at most 2 ^ 51
 upper-few : (u q D X : ℕ) → 0 < q * (D * D) → X ≤ q * (3 * 2 ^ 100 * (D * D)) → ((m : ℕ) → m + 1 ≡ u → 268435456 * (q * (m * m * (D * D))) ≤ 268435457 * X) → u ≤ 2 ^ 51
@@ -83,7 +75,7 @@ upper-few (suc m) q D X z h f = below-of-squares m (2 ^ 51) (lt-of-not-le (λ (l
 
 pub record MachineFigures (c Un : ℕ) (P : Point) (y : Complex) : Type 0 where
   pub bounds : Enclosed 1 3 (driven c Un P) (lowerOf 1 3 (currentBy c Un y)) (upperOf 1 3 (currentBy c Un y))
-  pub peak : PeakBound (machinePeakBy c Un y) (peakOver (squareOver c Un P) (P .re) (P .im)) (peakUnder (squareUnder P) (P .re) (P .im))
+  pub peak : NearMachinePeak (machinePeakBy c Un y) (peakOver (squareOver c Un P) (P .re) (P .im)) (peakUnder (squareUnder P) (P .re) (P .im))
   pub upper-few : upperOf 1 3 (currentBy c Un y) ≤ 2 ^ 51
   pub peak-few : machinePeakBy c Un y ≤ 2 ^ 51
 
@@ -105,19 +97,16 @@ module _ (c Un k : ℕ) (P : Point) (y : Complex) (c₀ : 0 < c) (c₁ : c ≤ 1
   index : Index (P .re) (P .im) (placeOf y)
   index = place-index y k P (h .1 .fine) (sized .0) (sized .1) (omega arith) (h .0) B₀
 
-  at-index : min (placeOf y) 230 ≡ placeOf y
-  at-index = min-eq-left (index .cap)
+  peak-point : NearTo value (Good 200 k) parts (k + 8 + 8 + 8) (times (fineFactor (placeOf y)) 16000 (driven c Un P)) (scaled (fineFactor (placeOf y)) 16000 (currentBy c Un y))
+  peak-point =
+      let b = fineFactor-sized (placeOf y) in
+      f64-rules k (omega arith) .near-scale (k + 8 + 8) _ 16000 _ _ (omega (arith, b .0), omega (arith, b .1)) (omega arith, omega arith) (omega arith) current-near
 
-  peak-near : NearTo value (Good 200 k) parts (k + 8 + 8 + 8) (times (peakFactor (min (placeOf y) 230)) 1000 (driven c Un P)) (scaled (peakFactor (min (placeOf y) 230)) 1000 (currentBy c Un y))
-  peak-near =
-      let b = peakFactor-sized (min (placeOf y) 230) in
-      f64-rules k (omega arith) .near-scale (k + 8 + 8) _ 1000 _ _ (omega (arith, b .0), omega (arith, b .1)) (omega arith, omega arith) (omega arith) current-near
-
-  peak-encloses : Enclosed 2 3 (times (peakFactor (min (placeOf y) 230)) 1000 (driven c Un P)) (lowerOf 2 3 (scaled (peakFactor (min (placeOf y) 230)) 1000 (currentBy c Un y))) (machinePeakBy c Un y)
+  peak-encloses : Enclosed 2 3 (times (fineFactor (placeOf y)) 16000 (driven c Un P)) (lowerOf 2 3 (scaled (fineFactor (placeOf y)) 16000 (currentBy c Un y))) (machinePeakBy c Un y)
   unfolding machinePeakBy
   peak-encloses =
-      encloses _ (k + 8 + 8 + 8) _ 2 3 (peak-near .1 .fine) (good-extent k (k + 8 + 8 + 8) _ (omega arith) (peak-near .1)) (omega arith) (peak-near .0) (lit< tt) (lit< tt) (lit< tt) (lit< tt)
-      (roomy 3 _ _ (peak-few (peakFactor (min (placeOf y) 230)) c Un (P .re) (P .im) (P .den) (peakFactor-sized (min (placeOf y) 230) .1) room))
+      encloses _ (k + 8 + 8 + 8) _ 2 3 (peak-point .1 .fine) (good-extent k (k + 8 + 8 + 8) _ (omega arith) (peak-point .1)) (omega arith) (peak-point .0) (lit< tt) (lit< tt) (lit< tt) (lit< tt)
+      (roomy 3 _ _ (peak-few (fineFactor (placeOf y)) c Un (P .re) (P .im) (P .den) (fineFactor-sized (placeOf y) .1) room))
 
   encloses-current : Enclosed 1 3 (driven c Un P) (lowerOf 1 3 (currentBy c Un y)) (upperOf 1 3 (currentBy c Un y))
   encloses-current =
@@ -128,11 +117,11 @@ module _ (c Un k : ℕ) (P : Point) (y : Complex) (c₀ : 0 < c) (c₁ : c ≤ 1
   machine-figures = record {
     bounds = encloses-current;
     peak =
-        peak-bound (squareOver c Un P) (squareUnder P) (P .re) (P .im) (placeOf y) (machinePeakBy c Un y) B₀ index
-        (rw at-index at (peak-over (peakFactor (min (placeOf y) 230)) c Un (P .re) (P .im) (P .den) (machinePeakBy c Un y) (peak-encloses .above)))
-        (λ m e. rw at-index at (peak-far (peakFactor (min (placeOf y) 230)) c Un (P .re) (P .im) (P .den) m (peak-encloses .near (m + 3) (omega arith))));
+        peak-near (squareOver c Un P) (squareUnder P) (P .re) (P .im) (placeOf y) (machinePeakBy c Un y) index
+        (peak-over (fineFactor (placeOf y)) c Un (P .re) (P .im) (P .den) (machinePeakBy c Un y) (peak-encloses .above))
+        (λ m e. peak-far (fineFactor (placeOf y)) c Un (P .re) (P .im) (P .den) m (peak-encloses .near m e));
     upper-few = upper-few _ 3 (P .den * 1 * 100) _ (mul-pos (lit< tt) (mul-pos (times-pos (h .0 .left)) (times-pos (h .0 .left)))) (current-few c Un (P .re) (P .im) (P .den) room) (encloses-current .near);
-    peak-few = upper-few _ 3 (P .den * 1 * 100 * 1000) _ (mul-pos (lit< tt) (mul-pos (mul-pos (times-pos (h .0 .left)) (lit< tt)) (mul-pos (times-pos (h .0 .left)) (lit< tt)))) (peak-few (peakFactor (min (placeOf y) 230)) c Un (P .re) (P .im) (P .den) (peakFactor-sized (min (placeOf y) 230) .1) room) (peak-encloses .near);
+    peak-few = upper-few _ 3 (P .den * 1 * 100 * 16000) _ (mul-pos (lit< tt) (mul-pos (mul-pos (times-pos (h .0 .left)) (lit< tt)) (mul-pos (times-pos (h .0 .left)) (lit< tt)))) (peak-few (fineFactor (placeOf y)) c Un (P .re) (P .im) (P .den) (fineFactor-sized (placeOf y) .1) room) (peak-encloses .near);
   }
     where
       times-pos : {d : ℕ} → 0 < d → 0 < d * 1 * 100
@@ -141,7 +130,7 @@ module _ (c Un k : ℕ) (P : Point) (y : Complex) (c₀ : 0 < c) (c₁ : c ≤ 1
 -- ---- the converters' part, exact at P: the bounds of its size, and √2 times it
 pub record ConverterFigures (P : Point) (x : Complex) : Type 0 where
   pub bounds : Enclosed 1 1 P (lowerOf 1 1 x) (upperOf 1 1 x)
-  pub peak : PeakBound (converterPeakBy x) (2 * norm (P .re) (P .im)) (P .den * P .den)
+  pub peak : NearConverterPeak (converterPeakBy x) (2 * norm (P .re) (P .im)) (P .den * P .den)
   pub upper-few : upperOf 1 1 x ≤ 2 ^ 51
   pub peak-few : converterPeakBy x ≤ 2 ^ 51
 
@@ -152,7 +141,7 @@ converter-figures k P x few h f s room = record {
   bounds = e₁;
   peak = record {
     no-lower = least (norm (P .re) (P .im)) (upperOf 2 1 x) (P .den) (e .above);
-    near = λ m d. far (norm (P .re) (P .im)) m (P .den) (e .near (m + 3) (omega arith));
+    near = λ m d. far (norm (P .re) (P .im)) m (P .den) (e .near m d);
   };
   upper-few = upper-few _ 1 (P .den) _ (mul-pos (lit< tt) (mul-pos (h .left) (h .left))) (fewer 1 (lit≤ tt)) (e₁ .near);
   peak-few = upper-few _ 1 (P .den) _ (mul-pos (lit< tt) (mul-pos (h .left) (h .left))) (fewer 2 (lit≤ tt)) (e .near);
@@ -170,5 +159,5 @@ converter-figures k P x few h f s room = record {
     least : (n u d : ℕ) → 2 * n ≤ 1 * (u * u * (d * d)) → 2 * n ≤ u * u * (d * d)
     least n u d h = omega arith
 
-    far : (n m d : ℕ) → 268435456 * (1 * ((m + 3) * (m + 3) * (d * d))) ≤ 268435457 * (2 * n) → 10000 * (m * m) * (d * d) ≤ 10404 * (2 * n)
-    far n m d h = from-over (n ∷ m ∷ d ∷ []) 268435456 (lit< tt) (10000 ⋆ h) (search read depth 40 fits 20000) refl
+    far : (n m d : ℕ) → 268435456 * (1 * (m * m * (d * d))) ≤ 268435457 * (2 * n) → 100000000 * 100000000 * (m * m) * (d * d) ≤ 100000001 * 100000001 * (2 * n)
+    far n m d h = from-over (n ∷ m ∷ d ∷ []) 268435456 (lit< tt) (10000000000000000 ⋆ h) (search read depth 40 fits 20000) refl

@@ -2,7 +2,10 @@ pub mod Factors
 pub mod Exponential
 pub mod Below
 pub mod PeakTable
+pub mod FineTable
 pub mod Peak
+pub mod NearPeak
+pub mod PeakLaw
 pub mod Impedance
 pub mod Sizes
 pub mod Rounded

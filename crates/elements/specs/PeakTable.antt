@@ -1,14 +1,14 @@
--- Document 01, "Factors": the peak table. Its rule is proved once over the whole table, by a test that is computed; and
--- so is how far each K(i) lies above 1.02 + 0.98/T. Assumes nothing.
+-- Document 01, "Factors": the peak table. Its rule is proved once over the whole table, by a test that is computed.
+-- Assumes nothing.
 use Prim.Native.Nat.{ℕ, zero, suc, _+_, _*_, _/_, _≤_, _<_}
 use mathlib.Core.Path.{_≡_}
 use mathlib.Core.Bool.{Bool}
 use mathlib.Core.List.{List, [], _∷_}
 use native.Mathlib.Omega.{arith}
-use native.Mathlib.Nat.{div-lt-iff-lt-mul, lt-div-mul-add, le-of-suc-le-suc}
-use lib.Dec.{eqb, eqb→eq, leb, leb→le, lit≤}
+use native.Mathlib.Nat.{div-lt-iff-lt-mul, lt-div-mul-add, le-of-suc-le-suc, le-refl, mul-le-mul}
+use lib.Dec.{eqb, eqb→eq, lit<}
 use lib.ListN.{getD}
-use Rattle.elements.specs.Exponential.{tOver, tUnder, over, under}
+use Rattle.elements.specs.Exponential.{tOver, tUnder, over, under, t-least, tOver-pos}
 use Rattle.elements.specs.Below.{below}
 
 -- the least whole number not below a/b
@@ -54,22 +54,10 @@ pub peaks-rule : (i : ℕ) → i < 231 → getD peaks i 0 ≡ peakFactor i
 unfolding right
 peaks-rule i h = eqb→eq (getD peaks i 0) (peakFactor i) (below right 231 tt i h)
 
--- ---- the upper side: for i below 230, 1.0035·K(i)/1,000 is at most 1.02·(1.02 + 0.98/T(3·(i + 1.1)/100))
-abbrev pub slack : ℕ
-slack = 10035
-
-narrow : ℕ → Bool
-unfolding peakFactor ceiling tOver tUnder over under
-narrow i = leb (slack * peakFactor i * tOver (3 * (10 * i + 11)) 1000) (102000 * (102 * tOver (3 * (10 * i + 11)) 1000 + 98 * tUnder 1000))
-
-pub peaks-near : (i : ℕ) → i < 230
-    → slack * peakFactor i * tOver (3 * (10 * i + 11)) 1000 ≤ 102000 * (102 * tOver (3 * (10 * i + 11)) 1000 + 98 * tUnder 1000)
-unfolding narrow
-peaks-near i h =
-    leb→le (slack * peakFactor i * tOver (3 * (10 * i + 11)) 1000) (102000 * (102 * tOver (3 * (10 * i + 11)) 1000 + 98 * tUnder 1000))
-    (below narrow 230 tt i h)
-
--- at the table's end 0.98/T is left out
-pub peaks-near-last : slack * peakFactor 230 ≤ 102000 * 102
-unfolding peakFactor ceiling tOver tUnder over under
-peaks-near-last = lit≤ tt
+-- K(i) is from 1,020 to 2,000
+pub peakFactor-sized : (i : ℕ) → (1020 ≤ peakFactor i) × (peakFactor i ≤ 2000)
+unfolding peakFactor
+peakFactor-sized i = go (ceiling (980 * tUnder 100) (tOver (3 * i) 100)) (ceiling-least (980 * tUnder 100) (tOver (3 * i) 100) 980 (tOver-pos (3 * i) 100 (lit< tt)) (mul-le-mul (le-refl 980) (t-least (3 * i) 100)))
+  where
+    go : (n : ℕ) → n ≤ 980 → (1020 ≤ 1020 + n) × (1020 + n ≤ 2000)
+    go n h = (omega arith, omega arith)

@@ -1,4 +1,4 @@
--- The calculated place is not above R/X, and less than 1.1 steps below it where the table goes on.
+-- The calculated place is not above R/X, and less than 1.1 steps of 1/1,600 below it where the table goes on.
 -- Assumes nothing.
 use Prim.Native.Nat.{ℕ, zero, suc, _+_, _*_, _^_, _≤_, _<_}
 use mathlib.Core.Path.{_≡_, refl, sym, _∙_}
@@ -23,26 +23,27 @@ use Rattle.enclosure.specs.Fair.{value, size, Fine, least, fits}
 use Rattle.enclosure.specs.Amperes.{le-units, nle-units}
 use Rattle.enclosure.specs.Climb.{Top, climb-top}
 use Rattle.enclosure.specs.Doubles.{climb}
-use Rattle.elements.specs.Peak.{Index}
-use Rattle.elements.specs.Place.{margin, hundred, fitsAt, placeOf}
+use Rattle.elements.specs.PeakLaw.{Index}
+use Rattle.elements.specs.Place.{margin, steps, fitsAt, placeOf}
 
--- ---- one test over plain numbers: 1,048,576·u smallest make 1; a and b are G and B, m1 is i·b, s is a + b, m2 is its margin, t is m1 + m2, h is 100·a
-module _ (i u a b m1 s m2 t h : ℕ) (i₁ : i ≤ 230) (u₀ : 0 < u) (big : 2 ^ 60 ≤ a + b)
+-- ---- one test over plain numbers: 1,048,576·u smallest make 1; a and b are G and B, m1 is i·b, s is a + b, m2 is its margin, t is m1 + m2, h is 1,600·a
+module _ (i u a b m1 s m2 t h : ℕ) (i₁ : i ≤ 3680) (u₀ : 0 < u) (big : 2 ^ 60 ≤ a + b)
     (r1 : Rounds m1 (i * (1048576 * u) * b) (1048576 * u)) (rs : Rounds s (a + b) 1) (r2 : Rounds m2 (s * u) (1048576 * u)) (rt : Rounds t (m1 + m2) 1)
-    (rh : Rounds h (100 * (1048576 * u) * a) (1048576 * u)) where
-  passes : t ≤ h → 2097152 * (i * b) + (a + b) ≤ 209715200 * a
+    (rh : Rounds h (1600 * (1048576 * u) * a) (1048576 * u)) where
+  -- three quarters of the margin are left
+  passes : t ≤ h → 4194304 * (i * b) + 3 * (a + b) ≤ 6710886400 * a
   passes l =
       from-over (i ∷ u ∷ a ∷ b ∷ m1 ∷ s ∷ m2 ∷ t ∷ h ∷ []) (18014398509481984 * 18014398509481984 * 18014398509481986 * (1048576 * u)) (mul-pos (lit< tt) (mul-pos (lit< tt) u₀))
-      (18014398509481984 * 18014398509481984 * 1048576 * 2 * (1048576 * u) ⋆ rt .1
-      ⊹ 18014398509481984 * 18014398509481984 * 18014398509481984 * 1048576 * 2 * (1048576 * u) ⋆ l
-      ⊹ 18014398509481984 * 18014398509481984 * 1048576 * 2 ⋆ rh .0
-      ⊹ 18014398509481984 * 18014398509481982 * 1048576 * 2 ⋆ r1 .1
-      ⊹ 18014398509481984 * 18014398509481982 * 1048576 * 2 ⋆ r2 .1
-      ⊹ 18014398509481982 * 18014398509481982 * 2 * (1048576 * u) ⋆ rs .1
-      ⊹ 12 * 18014398509481984 * 18014398509481984 * 1048576 * (1048576 * u) * b ⋆ i₁
-      ⊹ 81920 * 18014398509481984 * 18014398509481984 * (1048576 * u) ⋆ big) (search read depth 40 fits 20000) refl
+      (18014398509481984 * 18014398509481984 * 1048576 * 4 * (1048576 * u) ⋆ rt .1
+      ⊹ 18014398509481984 * 18014398509481984 * 18014398509481984 * 1048576 * 4 * (1048576 * u) ⋆ l
+      ⊹ 18014398509481984 * 18014398509481984 * 1048576 * 4 ⋆ rh .0
+      ⊹ 18014398509481984 * 18014398509481982 * 1048576 * 4 ⋆ r1 .1
+      ⊹ 18014398509481984 * 18014398509481982 * 1048576 * 4 ⋆ r2 .1
+      ⊹ 18014398509481982 * 18014398509481982 * 4 * (1048576 * u) ⋆ rs .1
+      ⊹ 24 * 18014398509481984 * 18014398509481984 * 1048576 * (1048576 * u) * b ⋆ i₁
+      ⊹ 163840 * 18014398509481984 * 18014398509481984 * (1048576 * u) ⋆ big) (search read depth 40 fits 20000) refl
 
-  fails : h ≤ t → 52428800 * a ≤ 524288 * (i * b) + (a + b)
+  fails : h ≤ t → 838860800 * a ≤ 524288 * (i * b) + (a + b)
   fails l =
       from-over (i ∷ u ∷ a ∷ b ∷ m1 ∷ s ∷ m2 ∷ t ∷ h ∷ []) (18014398509481984 * 18014398509481984 * 2 * 18014398509481982 * (1048576 * u)) (mul-pos (lit< tt) (mul-pos (lit< tt) u₀))
       (18014398509481984 * 18014398509481984 * 1048576 * (1048576 * u) ⋆ rt .0
@@ -55,47 +56,47 @@ module _ (i u a b m1 s m2 t h : ℕ) (i₁ : i ≤ 230) (u₀ : 0 < u) (big : 2 
       ⊹ 40960 * 18014398509481984 * 18014398509481984 * (1048576 * u) ⋆ big) (search read depth 40 fits 20000) refl
 
 -- ---- from the calculated pair (a, b) to the exact (A, B)
-module _ (i k L D A B a b : ℕ) (i₁ : i ≤ 230) (few : k ≤ 1000000) (L₀ : 0 < L) (c : Close parts k (A * L) (B * L) (a * D) (b * D)) where
-  below : 2097152 * (i * b) + (a + b) ≤ 209715200 * a → i * B ≤ 100 * A
+module _ (i k L D A B a b : ℕ) (i₁ : i ≤ 3680) (few : k ≤ 1000000) (L₀ : 0 < L) (c : Close parts k (A * L) (B * L) (a * D) (b * D)) where
+  below : 4194304 * (i * b) + 3 * (a + b) ≤ 6710886400 * a → i * B ≤ 1600 * A
   below h =
-      from-over (i ∷ k ∷ L ∷ D ∷ A ∷ B ∷ a ∷ b ∷ []) (9007199254740992 * 2097152 * L) (mul-pos (lit< tt) L₀)
-      (2097152 * i ⋆ close-part parts k (B * L) (A * L) (b * D) (a * D) (close-swap parts k (A * L) (B * L) (a * D) (b * D) c) .0
+      from-over (i ∷ k ∷ L ∷ D ∷ A ∷ B ∷ a ∷ b ∷ []) (9007199254740992 * 4194304 * L) (mul-pos (lit< tt) L₀)
+      (4194304 * i ⋆ close-part parts k (B * L) (A * L) (b * D) (a * D) (close-swap parts k (A * L) (B * L) (a * D) (b * D) c) .0
       ⊹ 9007199254740992 * D ⋆ h
-      ⊹ 209715200 ⋆ close-part parts k (A * L) (B * L) (a * D) (b * D) c .1
-      ⊹ close-part parts k (A * L) (B * L) (a * D) (b * D) c .0
-      ⊹ close-part parts k (B * L) (A * L) (b * D) (a * D) (close-swap parts k (A * L) (B * L) (a * D) (b * D) c) .0
-      ⊹ 2097152 * k * (A * L + B * L) ⋆ i₁
-      ⊹ 692060162 * (A * L + B * L) ⋆ few) (search read depth 40 fits 20000) refl
+      ⊹ 6710886400 ⋆ close-part parts k (A * L) (B * L) (a * D) (b * D) c .1
+      ⊹ 3 ⋆ close-part parts k (A * L) (B * L) (a * D) (b * D) c .0
+      ⊹ 3 ⋆ close-part parts k (B * L) (A * L) (b * D) (a * D) (close-swap parts k (A * L) (B * L) (a * D) (b * D) c) .0
+      ⊹ 4194304 * k * (A * L + B * L) ⋆ i₁
+      ⊹ 22145925126 * (A * L + B * L) ⋆ few) (search read depth 40 fits 20000) refl
 
-  above : 52428800 * a ≤ 524288 * (i * b) + (a + b) → 52428800 * A ≤ 524288 * (i * B) + 2 * (A + B)
+  above : 838860800 * a ≤ 524288 * (i * b) + (a + b) → 838860800 * A ≤ 524288 * (i * B) + 2 * (A + B)
   above h =
       from-over (i ∷ k ∷ L ∷ D ∷ A ∷ B ∷ a ∷ b ∷ []) (9007199254740992 * L) (mul-pos (lit< tt) L₀)
-      (52428800 ⋆ close-part parts k (A * L) (B * L) (a * D) (b * D) c .0
+      (838860800 ⋆ close-part parts k (A * L) (B * L) (a * D) (b * D) c .0
       ⊹ 9007199254740992 * D ⋆ h
       ⊹ 524288 * i ⋆ close-part parts k (B * L) (A * L) (b * D) (a * D) (close-swap parts k (A * L) (B * L) (a * D) (b * D) c) .1
       ⊹ close-part parts k (A * L) (B * L) (a * D) (b * D) c .1
       ⊹ close-part parts k (B * L) (A * L) (b * D) (a * D) (close-swap parts k (A * L) (B * L) (a * D) (b * D) c) .1
       ⊹ 524288 * k * (A * L + B * L) ⋆ i₁
-      ⊹ 173015042 * (A * L + B * L) ⋆ few) (search read depth 40 fits 20000) refl
+      ⊹ 2768240642 * (A * L + B * L) ⋆ few) (search read depth 40 fits 20000) refl
 
   -- a tenth of a step is more than the margin
-  tenth : 0 < B → 52428800 * A ≤ 524288 * (i * B) + 2 * (A + B) → 1000 * A < (10 * i + 1) * B
+  tenth : 0 < B → 838860800 * A ≤ 524288 * (i * B) + 2 * (A + B) → 16000 * A < (10 * i + 1) * B
   tenth z h =
-      lt-of-not-le (λ (l : (10 * i + 1) * B ≤ 1000 * A). absurd (le→leb 1 0 (from (i ∷ A ∷ B ∷ []) (1000 ⋆ h ⊹ 20 * B ⋆ i₁ ⊹ 52428798 ⋆ l ⊹ z) (search read depth 40 fits 20000) refl)))
+      lt-of-not-le (λ (l : (10 * i + 1) * B ≤ 16000 * A). absurd (le→leb 1 0 (from (i ∷ A ∷ B ∷ []) (16000 ⋆ h ⊹ 20 * B ⋆ i₁ ⊹ 838860798 ⋆ l ⊹ z) (search read depth 40 fits 20000) refl)))
 
 -- ---- the constants of the test
 margin-is : Is margin sliver
 unfolding ofBits
 margin-is = (refl, omega (arith, sliver-unit))
 
-hundred-is : Is hundred (100 * unit)
+steps-is : Is steps (1600 * unit)
 unfolding ofBits
-hundred-is = (refl, omega arith)
+steps-is = (refl, omega arith)
 
 -- ---- sizes over plain numbers: e is the extent, m the most
 module _ (L e m a b : ℕ) (L₀ : 0 < L) (e₀ : 0 < e) (eL : e * e * 2 ^ 120 ≤ L) (em : e * e * 2 ^ 60 ≤ m) (lo : L ≤ (a + b) * e) (hi : a + b ≤ L * e) where
-  product-fits : (i w : ℕ) → i ≤ 256 → w ≤ a + b → i * L * w ≤ L * L * m
-  product-fits i w h k = from (L ∷ e ∷ m ∷ a ∷ b ∷ i ∷ w ∷ []) (L * w ⋆ h ⊹ 256 * L ⋆ k ⊹ 256 * L ⋆ hi ⊹ L * L ⋆ em ⊹ L * L * e * 2 ^ 60 ⋆ e₀) (search read depth 40 fits 20000) refl
+  product-fits : (i w : ℕ) → i ≤ 4096 → w ≤ a + b → i * L * w ≤ L * L * m
+  product-fits i w h k = from (L ∷ e ∷ m ∷ a ∷ b ∷ i ∷ w ∷ []) (L * w ⋆ h ⊹ 4096 * L ⋆ k ⊹ 4096 * L ⋆ hi ⊹ L * L ⋆ em ⊹ L * L * e * 2 ^ 60 ⋆ e₀) (search read depth 40 fits 20000) refl
 
   -- s is a + b and m1 is i·b, rounded; u is no more than L
   margin-fits : (s u : ℕ) → Rounds s (a + b) 1 → u ≤ L → s * u ≤ L * L * m
@@ -104,10 +105,10 @@ module _ (L e m a b : ℕ) (L₀ : 0 < L) (e₀ : 0 < e) (eL : e * e * 2 ^ 120 �
       (18014398509481984 * s ⋆ k ⊹ L ⋆ h .0 ⊹ 18014398509481986 * L ⋆ hi ⊹ 18014398509481984 * (L * L) ⋆ em ⊹ 18014398509481984 * (L * L) * e * 2 ^ 60 ⋆ e₀ ⊹ 9007199254740992 * L ⋆ mul-pos L₀ e₀)
       (search read depth 40 fits 20000) refl
 
-  both-fit : (i s u m1 m2 : ℕ) → i ≤ 256 → u ≤ L → Rounds s (a + b) 1 → Rounds m1 (i * L * b) L → Rounds m2 (s * u) L → m1 + m2 ≤ L * m
+  both-fit : (i s u m1 m2 : ℕ) → i ≤ 4096 → u ≤ L → Rounds s (a + b) 1 → Rounds m1 (i * L * b) L → Rounds m2 (s * u) L → m1 + m2 ≤ L * m
   both-fit i s u m1 m2 h k hs h1 h2 =
       from-over (L ∷ e ∷ m ∷ a ∷ b ∷ i ∷ s ∷ u ∷ m1 ∷ m2 ∷ []) (18014398509481984 * L) (mul-pos (lit< tt) L₀)
-      (h1 .0 ⊹ h2 .0 ⊹ 18014398509481986 * L * b ⋆ h ⊹ 18014398509481986 * 256 * L ⋆ hi ⊹ 18014398509481986 * s ⋆ k
+      (h1 .0 ⊹ h2 .0 ⊹ 18014398509481986 * L * b ⋆ h ⊹ 18014398509481986 * 4096 * L ⋆ hi ⊹ 18014398509481986 * s ⋆ k
       ⊹ 2 * L ⋆ hs .0 ⊹ 40000000000000000 * L ⋆ hi ⊹ 40000000000000000 * L ⋆ mul-pos L₀ e₀
       ⊹ 18014398509481984 * (L * L) ⋆ em ⊹ 18014398509481984 * (L * L) * e * 2 ^ 60 ⋆ e₀)
       (search read depth 40 fits 20000) refl
@@ -125,10 +126,10 @@ module _ (y : Complex) (f : Fine y) (lo : unit ≤ size y * extent) (hi : size y
   spare : Rounded (mul binary64 (add binary64 (y .re) (y .im)) margin) (unitsOf (add binary64 (y .re) (y .im)) * sliver) unit
   spare = mul-rounds _ margin _ sliver (joint .is) margin-is (margin-fits unit extent most (unitsOf (y .re)) (unitsOf (y .im)) unit-pos extent-pos extent-unit extent-most lo hi _ sliver (joint .law) small)
 
-  right : Rounded (mul binary64 hundred (y .re)) (100 * unit * unitsOf (y .re)) unit
-  right = mul-rounds hundred (y .re) (100 * unit) _ hundred-is (f .re) (product-fits unit extent most (unitsOf (y .re)) (unitsOf (y .im)) unit-pos extent-pos extent-unit extent-most lo hi 100 (unitsOf (y .re)) (omega arith) (omega arith))
+  right : Rounded (mul binary64 steps (y .re)) (1600 * unit * unitsOf (y .re)) unit
+  right = mul-rounds steps (y .re) (1600 * unit) _ steps-is (f .re) (product-fits unit extent most (unitsOf (y .re)) (unitsOf (y .im)) unit-pos extent-pos extent-unit extent-most lo hi 1600 (unitsOf (y .re)) (omega arith) (omega arith))
 
-  module _ (i : ℕ) (i₁ : i ≤ 230) where
+  module _ (i : ℕ) (i₁ : i ≤ 3680) where
     times-i : Rounded (mul binary64 (ofNat i) (y .im)) (i * unit * unitsOf (y .im)) unit
     times-i = mul-rounds (ofNat i) (y .im) (i * unit) _ (is-whole i (omega arith)) (f .im) (product-fits unit extent most (unitsOf (y .re)) (unitsOf (y .im)) unit-pos extent-pos extent-unit extent-most lo hi i (unitsOf (y .im)) (omega arith) (omega arith))
 
@@ -147,50 +148,50 @@ module _ (y : Complex) (f : Fine y) (lo : unit ≤ size y * extent) (hi : size y
         go zero e = absurd (omega (arith, unit-pos))
         go (suc s) e = omega arith
 
-    fits-true : fitsAt y i ≡ true → 2097152 * (i * unitsOf (y .im)) + (unitsOf (y .re) + unitsOf (y .im)) ≤ 209715200 * unitsOf (y .re)
+    fits-true : fitsAt y i ≡ true → 4194304 * (i * unitsOf (y .im)) + 3 * (unitsOf (y .re) + unitsOf (y .im)) ≤ 6710886400 * unitsOf (y .re)
     unfolding fitsAt
     fits-true e =
         passes i sliver (unitsOf (y .re)) (unitsOf (y .im)) _ _ _ _ _ i₁ sliver-pos enough
         (rw sliver-unit at (times-i .law)) (joint .law) (rw sliver-unit at (spare .law)) (left .law) (rw sliver-unit at (right .law))
-        (le-units _ _ _ _ (left .is) (right .is) (rw (le-ltb 230 i i₁) at e))
+        (le-units _ _ _ _ (left .is) (right .is) (rw (le-ltb 3680 i i₁) at e))
 
-    fits-false : fitsAt y i ≡ false → 52428800 * unitsOf (y .re) ≤ 524288 * (i * unitsOf (y .im)) + (unitsOf (y .re) + unitsOf (y .im))
+    fits-false : fitsAt y i ≡ false → 838860800 * unitsOf (y .re) ≤ 524288 * (i * unitsOf (y .im)) + (unitsOf (y .re) + unitsOf (y .im))
     unfolding fitsAt
     fits-false e =
         fails i sliver (unitsOf (y .re)) (unitsOf (y .im)) _ _ _ _ _ i₁ sliver-pos enough
         (rw sliver-unit at (times-i .law)) (joint .law) (rw sliver-unit at (spare .law)) (left .law) (rw sliver-unit at (right .law))
-        (le-of-lt (nle-units _ _ _ _ (left .is) (right .is) (rw (le-ltb 230 i i₁) at e)))
+        (le-of-lt (nle-units _ _ _ _ (left .is) (right .is) (rw (le-ltb 3680 i i₁) at e)))
 
 -- nothing past the end of the table fits
-past : (y : Complex) (i : ℕ) → 230 < i → fitsAt y i ≡ false
+past : (y : Complex) (i : ℕ) → 3680 < i → fitsAt y i ≡ false
 unfolding fitsAt
-past y i h = rw (lt-ltb 230 i h)
+past y i h = rw (lt-ltb 3680 i h)
 
-inside : (y : Complex) (i : ℕ) → fitsAt y i ≡ true → i ≤ 230
-inside y i e = go (ltb 230 i) refl
+inside : (y : Complex) (i : ℕ) → fitsAt y i ≡ true → i ≤ 3680
+inside y i e = go (ltb 3680 i) refl
   where
-    go : (t : Bool) → ltb 230 i ≡ t → i ≤ 230
-    go true h = absurd (true≢false (sym e ∙ past y i (ltb-true 230 i h)))
-    go false h = ltb-false 230 i h
+    go : (t : Bool) → ltb 3680 i ≡ t → i ≤ 3680
+    go true h = absurd (true≢false (sym e ∙ past y i (ltb-true 3680 i h)))
+    go false h = ltb-false 3680 i h
 
--- THE PLACE: i/100 ≤ R/X, and R/X < (i + 1.1)/100 below the table's end, for an admittance within 10⁶ parts in 2 ^ 53 of P
+-- THE PLACE: p/1,600 ≤ R/X, and R/X < (p + 1.1)/1,600 below the table's end, for an admittance within 10⁶ parts in 2 ^ 53 of P
 pub place-index : (y : Complex) (k : ℕ) (P : Point) → Fine y → unit ≤ size y * extent → size y ≤ unit * extent → k ≤ 1000000 → Near parts k P (value y) → 0 < P .im → Index (P .re) (P .im) (placeOf y)
 unfolding placeOf
-place-index y k P f lo hi few near B₀ = go (climb-top (fitsAt y) 8 0 (past y 256 (lit< tt)))
+place-index y k P f lo hi few near B₀ = go (climb-top (fitsAt y) 12 0 (past y 4096 (lit< tt)))
   where
-    go : Top (fitsAt y) 0 (0 + 2 ^ 8) (climb (fitsAt y) 8 0) → Index (P .re) (P .im) (climb (fitsAt y) 8 0)
+    go : Top (fitsAt y) 0 (0 + 2 ^ 12) (climb (fitsAt y) 12 0) → Index (P .re) (P .im) (climb (fitsAt y) 12 0)
     go top = record { below = ⊎-elim (λ e. rw e (omega arith)) under (top .passes); cap = cap; above = over }
       where
-        cap : climb (fitsAt y) 8 0 ≤ 230
-        cap = ⊎-elim (λ e. rw e (lit≤ tt)) (inside y (climb (fitsAt y) 8 0)) (top .passes)
+        cap : climb (fitsAt y) 12 0 ≤ 3680
+        cap = ⊎-elim (λ e. rw e (lit≤ tt)) (inside y (climb (fitsAt y) 12 0)) (top .passes)
 
-        under : fitsAt y (climb (fitsAt y) 8 0) ≡ true → climb (fitsAt y) 8 0 * P .im ≤ 100 * P .re
-        under e = below (climb (fitsAt y) 8 0) k unit (P .den) (P .re) (P .im) _ _ cap few unit-pos (near .close) (fits-true y f lo hi (climb (fitsAt y) 8 0) cap e)
+        under : fitsAt y (climb (fitsAt y) 12 0) ≡ true → climb (fitsAt y) 12 0 * P .im ≤ 1600 * P .re
+        under e = below (climb (fitsAt y) 12 0) k unit (P .den) (P .re) (P .im) _ _ cap few unit-pos (near .close) (fits-true y f lo hi (climb (fitsAt y) 12 0) cap e)
 
-        over : climb (fitsAt y) 8 0 < 230 → 1000 * P .re < (10 * climb (fitsAt y) 8 0 + 11) * P .im
+        over : climb (fitsAt y) 12 0 < 3680 → 16000 * P .re < (10 * climb (fitsAt y) 12 0 + 11) * P .im
         over l =
-            let i : ℕ = climb (fitsAt y) 8 0 + 1 in
-            shift (climb (fitsAt y) 8 0) (P .im) _
+            let i : ℕ = climb (fitsAt y) 12 0 + 1 in
+            shift (climb (fitsAt y) 12 0) (P .im) _
             (tenth i k unit (P .den) (P .re) (P .im) (unitsOf (y .re)) (unitsOf (y .im)) (omega arith) few unit-pos (near .close) B₀
             (above i k unit (P .den) (P .re) (P .im) _ _ (omega arith) few unit-pos (near .close) (fits-false y f lo hi i (omega arith) (top .fails))))
           where

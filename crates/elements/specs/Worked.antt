@@ -9,7 +9,9 @@ use Rattle.enclosure.specs.Root.{rootOf, rootUp}
 use Rattle.elements.specs.Factors.{factorC, sineOf, uxOf, splitOf}
 use Rattle.elements.specs.Exponential.{tOver, tUnder, over, under}
 use Rattle.elements.specs.PeakTable.{peakFactor, ceiling}
-use Rattle.elements.specs.Peak.{PeakBound, crest, peakOver, peakUnder, peak-bound}
+use Rattle.elements.specs.FineTable.{fineFactor}
+use Rattle.elements.specs.Peak.{PeakBound, crest, peakOver, peakUnder}
+use Rattle.elements.specs.PeakLaw.{near-bound, peak-near}
 use Rattle.elements.specs.Impedance.{transformer, split, feeder, generator}
 
 pub record Starred : Type 0 where
@@ -89,9 +91,10 @@ alone-peaks = (
     not-le : {a b : ℕ} → a ≤ b → b < a → ⊥
     not-le h l = omega arith
 
--- the law gives one of them: K(10)/1,000·√2·I, rounded up
+-- the law gives one of them: V(160)/16,000·√2·I, rounded up
 pub alone-peak : Peak 35661
-unfolding feeder split factorC splitOf rootOf peakFactor ceiling tOver tUnder over under
+unfolding feeder split factorC splitOf rootOf fineFactor peakFactor ceiling tOver tUnder over under
 alone-peak =
-    peak-bound P Q (alone .re) (alone .im) 10 35661 (lit< tt) (record { below = lit≤ tt; cap = lit≤ tt; above = λ l. lit< tt })
-    (lit≤ tt) (λ m e. let q : m ≡ 35657 = omega arith in rw q (lit≤ tt))
+    near-bound 10015 10000 35661 _ _ (lit< tt) (lit≤ tt)
+    (peak-near P Q (alone .re) (alone .im) 160 35661 (record { below = lit≤ tt; cap = lit≤ tt; above = λ l. lit< tt })
+    (lit≤ tt) (λ m e. let q : m ≡ 35660 = omega arith in rw q (lit≤ tt)))

@@ -3,6 +3,7 @@ ghost use mathlib.Core.Path.{_≡_};
 ghost use Prim.Native.Nat.{min};
 ghost use Rattle.elements.specs.Factors.{factorC, sineOf, uxOf, splitOf};
 ghost use Rattle.elements.specs.PeakTable.{peakFactor};
+ghost use Rattle.elements.specs.FineTable.{fineFactor};
 
 // c in hundredths, by the tolerance in percent and the nominal volts.
 pub fn voltage_factor(tolerance: u32, volts: u32) -> u32
@@ -55,6 +56,15 @@ pub fn peak_factor(i: u32) -> u32
     } else {
         PEAKS[230]
     }
+}
+
+// V(p) in sixteen-thousandths, by R/X in 1,600ths: sixteen steps from an entry of the table to the next.
+pub fn fine_factor(p: u32) -> u32
+    ensures { λ r. ⌜ r ≡ fineFactor p ⌝ }
+{
+    let i = p / 16;
+    let s = p % 16;
+    (16 - s) * peak_factor(i) + s * peak_factor(i + 1)
 }
 
 const PEAKS: [u32; 231] = [

@@ -1,5 +1,5 @@
-// Peak currents: the place in the peak table, and the peaks of machines and of converters.
-use crate::factors::peak_factor;
+// Peak currents: the place in the peak table's steps, and the peaks of machines and of converters.
+use crate::factors::fine_factor;
 use enclosure::Complex;
 use enclosure::scale;
 use enclosure::upper;
@@ -7,23 +7,23 @@ ghost use mathlib.Core.Path.{_≡_};
 ghost use Rattle.elements.specs.Place.{fitsAt, placeOf};
 ghost use Rattle.elements.specs.Currents.{currentBy, machinePeakBy, converterPeakBy};
 
-// Whether i/100 is at most G/B of an admittance, by a margin; i stays within the table.
-fn fits(y: Complex, i: u32) -> bool
-    ensures { λ r. ⌜ r ≡ fitsAt y i ⌝ }
+// Whether p/1,600 is at most G/B of an admittance, by a margin; p stays within the table.
+fn fits(y: Complex, p: u32) -> bool
+    ensures { λ r. ⌜ r ≡ fitsAt y p ⌝ }
 {
-    if 230 < i {
+    if 3680 < p {
         return false;
     }
-    i as f64 * y.im + (y.re + y.im) * 0.00000095367431640625 <= 100.0 * y.re
+    p as f64 * y.im + (y.re + y.im) * 0.00000095367431640625 <= 1600.0 * y.re
 }
 
-// The greatest i up to 230 with i/100 at most G/B by a margin, and 0 where there is none.
+// The greatest p up to 3,680 with p/1,600 at most G/B by a margin, and 0 where there is none.
 pub fn place(y: Complex) -> u32
     ensures { λ r. ⌜ r ≡ placeOf y ⌝ }
 {
     let mut low = 0u32;
-    let mut step = 256u32;
-    let mut bits = 8u32;
+    let mut step = 4096u32;
+    let mut bits = 12u32;
     while bits > 0 {
         bits -= 1;
         step = step / 2;
@@ -46,8 +46,8 @@ pub fn current(y: Complex, c: u32, volts: u32) -> Complex
 pub fn machine_peak(y: Complex, c: u32, volts: u32) -> u64
     ensures { λ r. ⌜ r ≡ machinePeakBy c volts y ⌝ }
 {
-    let k = peak_factor(place(y));
-    upper(scale(current(y, c, volts), k, 1_000), 2, 3)
+    let v = fine_factor(place(y));
+    upper(scale(current(y, c, volts), v, 16_000), 2, 3)
 }
 
 // The converters' peak in whole amperes.

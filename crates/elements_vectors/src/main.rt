@@ -1,5 +1,6 @@
 // Prints the factors over the ranges of document 01, a line for each value: a letter, the arguments, the value.
 ghost use Prim.Native.Nat.{_≤_};
+use elements::factors::fine_factor;
 use elements::factors::peak_factor;
 use elements::factors::reactance;
 use elements::factors::sine;
@@ -21,11 +22,12 @@ fn end() {
     io::write_all(STDOUT_FILENO, b"\n");
 }
 
-// The factor of one argument that a letter names: f, s for the sine, K.
+// The factor of one argument that a letter names: f, s for the sine, K, V.
 fn value(name: u8, x: u32) -> u32 {
     match name {
         b'f' => split_factor(x),
         b's' => sine(x),
+        b'V' => fine_factor(x),
         _ => peak_factor(x),
     }
 }
@@ -95,4 +97,7 @@ fn main() {
     rows(b'K', 0, 231);
     row(b'K', 231);
     row(b'K', 4_294_967_295);
+    rows(b'V', 0, 3_681);
+    row(b'V', 3_681);
+    row(b'V', 4_294_967_295);
 }

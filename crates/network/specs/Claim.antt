@@ -22,7 +22,8 @@ use Rattle.enclosure.specs.Amperes.{width}
 use Rattle.enclosure.specs.declared.Complex.{Complex}
 use Rattle.elements.specs.Factors.{factorC}
 use Rattle.elements.specs.Sizes.{factorC-sized}
-use Rattle.elements.specs.Peak.{PeakBound, peak-scale}
+use Rattle.elements.specs.NearPeak.{NearConverterPeak}
+use Rattle.elements.specs.PeakLaw.{near-bound, peak-scale}
 use Rattle.elements.specs.Currents.{converterPeakBy}
 use Rattle.elements.specs.Figures.{MachineFigures, machine-figures, ConverterFigures, converter-figures}
 use Rattle.tree.specs.Grid.{seen}
@@ -41,6 +42,7 @@ use Rattle.network.specs.Rebuilt.{Rebuilt, run-rebuilt}
 use Rattle.network.specs.Facts.{bus-volts, few-buses, few-sources, closed-source}
 use Rattle.network.specs.Grid.{gridOf, converterAt, isConverter}
 use Rattle.network.specs.Demand.{Whole, MachinesHold, ConvertersHold, Demand}
+use Rattle.network.specs.NearPeaks.{MachinePeak, ConverterPeak, NearPeaks}
 use Rattle.network.specs.Rounded.{ownBy, convertersBy, branchesBy, seenAt, carriedAt, figuresBy, figuresAt, amperesAt}
 use Rattle.network.specs.Elements.{branchMost, machineMost}
 use Rattle.network.specs.Ranges.{voltsOf, sound, levels, referred-least, near-branch}
@@ -67,7 +69,27 @@ impedance-of : (x : Point) → 0 < x .im → inverse x ≡ turned x
 unfolding inverse
 impedance-of x h = rw (ne-eqb (x .re + x .im) 0 (λ e. omega arith))
 
--- the machines' figures, from the admittance P to the impedance 1/P
+-- ---- the peaks
+-- the machines', from the admittance P to the impedance 1/P
+machine-peak : (c Un : ℕ) (P : Point) (y : Complex) → 0 < P .im → MachineFigures c Un P y → MachinePeak (c * Un) (inverse P) (figuresBy c Un y y .peak)
+machine-peak c Un P y h f =
+    rw (impedance-of P h, ← over (P .re) (P .im), ← under (P .re) (P .im) (P .den))
+    (peak-scale _ _ _ (c * Un * (c * Un) * norm (P .re) (P .im)) (30000 * (P .den * P .den)) (P .re) (P .im) (norm (P .re) (P .im)) (P .den) (f .peak))
+  where
+    over : (A B : ℕ) → c * Un * (c * Un) * norm A B * norm A B ≡ c * Un * (c * Un) * (norm A B * norm A B)
+    over A B = identity (c ∷ Un ∷ A ∷ B ∷ []) (search read depth 40 fits 20000) refl
+
+    under : (A B D : ℕ) → 30000 * (D * D) * norm A B ≡ 30000 * norm (A * D) (B * D)
+    under A B D = identity (A ∷ B ∷ D ∷ []) (search read depth 40 fits 20000) refl
+
+-- the converters', on the real axis
+converter-peak : (P : Point) (x : Complex) → P .im ≡ 0 → ConverterFigures P x → ConverterPeak P (figuresBy 0 0 x x .«converters_peak»)
+converter-peak P x e f = subst (λ (v : ℕ). NearConverterPeak (converterPeakBy x) (2 * v) (P .den * P .den)) (plain-norm (P .re) (P .im) e) (f .peak)
+  where
+    plain-norm : (a b : ℕ) → b ≡ 0 → norm a b ≡ a * a
+    plain-norm a b e = rw e (omega arith)
+
+-- ---- the machines' figures, from the admittance P to the impedance 1/P
 machines-hold : (c Un : ℕ) (P : Point) (y : Complex) → 0 < P .im → 0 < P .den → MachineFigures c Un P y
     → MachinesHold (c * Un) (inverse P) (figuresBy c Un y y .lower) (figuresBy c Un y y .upper) (figuresBy c Un y y .peak)
 machines-hold c Un P y h d f = rw (impedance-of P h) (record {
@@ -76,16 +98,8 @@ machines-hold c Un P y h d f = rw (impedance-of P h) (record {
   below = below-as c Un (P .re) (P .im) (P .den) _ (f .bounds .below);
   above = above-as c Un (P .re) (P .im) (P .den) _ (f .bounds .above);
   narrow = width 1000 _ _ (lit≤ tt) (f .bounds .narrow);
-  crest =
-      rw (← over (P .re) (P .im), ← under (P .re) (P .im) (P .den))
-      (peak-scale _ (c * Un * (c * Un) * norm (P .re) (P .im)) (30000 * (P .den * P .den)) (P .re) (P .im) (norm (P .re) (P .im)) (P .den) (f .peak));
+  crest = near-bound _ _ _ _ _ (lit< tt) (lit≤ tt) (rw (impedance-of P h) at (machine-peak c Un P y h f));
 })
-  where
-    over : (A B : ℕ) → c * Un * (c * Un) * norm A B * norm A B ≡ c * Un * (c * Un) * (norm A B * norm A B)
-    over A B = identity (c ∷ Un ∷ A ∷ B ∷ []) (search read depth 40 fits 20000) refl
-
-    under : (A B D : ℕ) → 30000 * (D * D) * norm A B ≡ 30000 * norm (A * D) (B * D)
-    under A B D = identity (A ∷ B ∷ D ∷ []) (search read depth 40 fits 20000) refl
 
 -- the converters' figures, on the real axis
 converters-hold : (P : Point) (x : Complex) → 0 < P .den → P .im ≡ 0 → ConverterFigures P x → ConvertersHold P (figuresBy 0 0 x x .«converters_lower») (figuresBy 0 0 x x .«converters_upper») (figuresBy 0 0 x x .«converters_peak»)
@@ -95,12 +109,9 @@ converters-hold P x d e f = record {
   below = root-le _ (P .re) (low _ (P .re) (P .im) (P .den) e (f .bounds .below));
   above = root-le (P .re) _ (high _ (P .re) (P .im) (P .den) e (f .bounds .above));
   narrow = width 1000 _ _ (lit≤ tt) (f .bounds .narrow);
-  crest = subst (λ (v : ℕ). PeakBound (converterPeakBy x) (2 * v) (P .den * P .den)) (plain-norm (P .re) (P .im) e) (f .peak);
+  crest = near-bound _ _ _ _ _ (lit< tt) (lit≤ tt) (converter-peak P x e f);
 }
   where
-    plain-norm : (a b : ℕ) → b ≡ 0 → norm a b ≡ a * a
-    plain-norm a b e = rw e (omega arith)
-
     low : (i a b d : ℕ) → b ≡ 0 → 1 * (i * i * (d * d)) ≤ 1 * norm a b → i * d * (i * d) ≤ a * a
     low i a b d e h = from (i ∷ a ∷ d ∷ []) (rw e at h) (search read depth 40 fits 20000) refl
 
@@ -189,6 +200,9 @@ module _ {n : Network} (r : Rebuilt n) (source : 0 < length (n .sources)) (b : �
   carried-fraction : 0 < carried (gridOf n) b .den
   carried-fraction = carried-proper (gridOf n) (sound r .tree) (λ i z m. (sound r .volts i z m .0 .0, sound r .volts i z m .1 .0)) (amperes r .proper) b lb
 
+  real : carried (gridOf n) b .im ≡ 0
+  real = carried-real (gridOf n) (λ i l. current-real r i) b lb
+
   machine-order : figuresAt n b .lower ≤ figuresAt n b .upper
   machine-order = order 3 (seen (gridOf n) b b .den * 1 * 100) _ _ _ (mul-pos (lit< tt) (mul-pos hundred hundred)) (machine-part .bounds .below) (machine-part .bounds .above)
     where
@@ -217,7 +231,16 @@ module _ {n : Network} (r : Rebuilt n) (source : 0 < length (n .sources)) (b : �
     figures = figuresAt n b;
     whole = figures-whole;
     machines = machines-hold _ (voltsOf n b) (seen (gridOf n) b b) (seenAt n b) reactive seen-fraction machine-part;
-    converters = converters-hold (carried (gridOf n) b) (carriedAt n b) carried-fraction (carried-real (gridOf n) (λ i l. current-real r i) b lb) converter-part;
+    converters = converters-hold (carried (gridOf n) b) (carriedAt n b) carried-fraction real converter-part;
+  }
+
+  -- beside demand 3
+  pub near-peaks : NearPeaks n b (amperesAt n b)
+  near-peaks = record {
+    figures = figuresAt n b;
+    whole = figures-whole;
+    machines = machine-peak _ (voltsOf n b) (seen (gridOf n) b b) (seenAt n b) reactive machine-part;
+    converters = converter-peak (carried (gridOf n) b) (carriedAt n b) real converter-part;
   }
 
 -- THE CLAIM, for every list of calls, refused ones among them: if its run is closed, then what is given for any bus of it meets demand 3

@@ -10,6 +10,7 @@ pub mod Facts
 pub mod Reached
 pub mod Grid
 pub mod Demand
+pub mod NearPeaks
 pub mod Rounded
 pub mod Verdict
 pub mod Query
@@ -22,3 +23,4 @@ pub mod VerdictLaw
 pub mod Worked
 pub mod Columns
 pub mod Promise
+pub mod NearPromise

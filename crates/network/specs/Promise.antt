@@ -37,7 +37,7 @@ pub record Kept (cs : List Call) (b : ℕ) (f : Found) : Type 0 where
 abbrev pub Promise : Network → ℕ → Found → Type 0
 Promise n b f = (cs : List Call) → n ≡ run cs → run cs .closed ≡ true → b < length (run cs .buses) → Kept cs b f
 
-amperes-given : (n : Network) (b : ℕ) → queryNumber n b ≡ 0 → amperesGiven n b ≡ amperesAt n b
+pub amperes-given : (n : Network) (b : ℕ) → queryNumber n b ≡ 0 → amperesGiven n b ≡ amperesAt n b
 unfolding amperesGiven
 amperes-given n b e = rw (eq-eqb (queryNumber n b) 0 e)
 

@@ -6,6 +6,7 @@ ghost use lib.ListN.{length};
 ghost use Rattle.network.specs.Network.{blank, blankSource, network, busAt};
 ghost use Rattle.network.specs.Verdict.{verdictOf};
 ghost use Rattle.network.specs.Promise.{Promise};
+ghost use Rattle.network.specs.NearPromise.{NearPromise};
 ghost use Rattle.network.specs.Query.{queryNumber, noAmperes, amperesGiven, verdictGiven};
 ghost use Rattle.network.specs.Grounds.{emptyOf, startNumber, startNetwork, busNumber, afterBus, sourceNumber, afterSource, closeNumber, afterClose};
 
@@ -370,12 +371,13 @@ fn given(s: Study, bus: u32) -> Found
 }
 
 // The six amperes of a bus, and its verdict. Refused: 22 not closed, 15 no such bus; then the amperes are 0 and the verdict is close.
-// The last clause is demand 3 whole: for whatever calls made the study.
+// The clause `promise` is demand 3 whole, for whatever calls made the study; `near` holds the peaks nearer than demand 3 asks.
 pub fn query(s: Study, bus: u32) -> Found
     ensures number { λ r. ⌜ r .number ≡ queryNumber (network s) bus ⌝ }
     ensures amperes { λ r. ⌜ r .amperes ≡ amperesGiven (network s) bus ⌝ }
     ensures verdict { λ r. ⌜ r .verdict ≡ verdictGiven (network s) bus ⌝ }
     ensures promise { λ r. ⌜ Promise (network s) bus r ⌝ }
+    ensures near { λ r. ⌜ NearPromise (network s) bus r ⌝ }
 {
     given(s, bus)
 }

@@ -13,6 +13,8 @@ use Rattle.network.specs.declared.Found.{Found}
 use Rattle.network.specs.Calls.{Call, starting, addingBus, addingSource, closing, runFrom, run-append, emptyNetwork, run}
 use Rattle.network.specs.Query.{queryNumber, amperesGiven, verdictGiven}
 use Rattle.network.specs.Promise.{Kept, promised}
+use Rattle.network.specs.NearPeaks.{NearPeaks}
+use Rattle.network.specs.NearPromise.{near-promised}
 use Rattle.network.specs.Booleans.{by-test}
 use Rattle.reader.specs.declared.Row.{Row}
 use Rattle.reader.specs.declared.Row.the-variants.{Start, WithBus, WithSource, Malformed}
@@ -90,6 +92,12 @@ module _ (text : List ℕ) (e : readOf text .number ≡ 0) where
       → f .number ≡ queryNumber (readOf text .network) b → f .amperes ≡ amperesGiven (readOf text .network) b → f .verdict ≡ verdictGiven (readOf text .network) b → Kept (calls text) b f
   read-kept b l f p q v =
       promised (readOf text .network) b f p q v (calls text) read-run (subst (λ (n : Network). n .closed ≡ true) read-run read-closed)
+      (subst (λ (n : Network). b < length (n .buses)) read-run l)
+
+  -- and its peaks are as near as a query promises beside demand 3
+  pub read-near : (b : ℕ) → b < length (readOf text .network .buses) → (f : Found) → f .amperes ≡ amperesGiven (readOf text .network) b → NearPeaks (run (calls text)) b (f .amperes)
+  read-near b l f q =
+      near-promised (readOf text .network) b f q (calls text) read-run (subst (λ (n : Network). n .closed ≡ true) read-run read-closed)
       (subst (λ (n : Network). b < length (n .buses)) read-run l)
 
 -- ---- refused

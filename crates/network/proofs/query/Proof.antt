@@ -2,6 +2,7 @@
 use borrow.Author.Needs.{needs}
 use Rattle.network.specs.Network.{network}
 use Rattle.network.specs.Promise.{promised}
+use Rattle.network.specs.NearPromise.{near-promised}
 use Rattle.network.proofs.query.Statement.{statement}
 use Rattle.network.proofs.query.Tie as tie
 
@@ -11,7 +12,8 @@ given-requires c κs = search needs
 returns : tie.Need-returns
 returns c =
     let e = c .given .ensures in
-    (e .0, (e .1 .0, (e .1 .1, promised (network (c .before .args .s)) (c .before .args .bus) (c .given .result) (e .0) (e .1 .0) (e .1 .1))))
+    let n = network (c .before .args .s) in
+    (e .0, (e .1 .0, (e .1 .1, (promised n (c .before .args .bus) (c .given .result) (e .0) (e .1 .0) (e .1 .1), near-promised n (c .before .args .bus) (c .given .result) (e .1 .0)))))
 
 pub query-spec : {M : Type 1} → statement M
 query-spec = tie.close (tie.spec given-requires returns)
