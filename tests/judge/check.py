@@ -28,10 +28,11 @@ class Tally:
         self.buses += 1
         for lower, upper in (amperes[0:2], amperes[2:4]):
             self.note("width", 1000 * (upper - lower) / (2000 + upper))
-        exact = judge.machines.peak_estimate()
-        self.note("peak", (amperes.machines_peak - exact) / (4 + exact / 50))
-        exact = judge.converters.peak_ceiling()
-        self.note("peak", (amperes.converters_peak - exact) / (4 + exact / 50))
+        least = judge.machines.peak_ceiling()
+        self.note("peak", (amperes.machines_peak - least) / (4 + least / 50))
+        self.note("near", (amperes.machines_peak - least) / (1 + least * 0.0015))
+        least = judge.converters.peak_ceiling()
+        self.note("peak", (amperes.converters_peak - least) / (4 + least / 50))
 
     def add(self, other):
         self.networks += other.networks
@@ -108,7 +109,7 @@ class Checker:
 
     def amperes_reason(self, study, bus, amperes, letter, given):
         judge = self.judges(study)[bus]
-        reasons = judge.reasons(amperes)
+        reasons = judge.reasons(amperes) + judge.near_reasons(amperes)
         reasons += verdict_reasons(amperes, letter, given, study.buses[bus])
         reasons += self.sameness_reasons(study, bus, amperes)
         self.tally.note_amperes(judge, amperes)

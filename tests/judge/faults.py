@@ -16,7 +16,7 @@ from exact import (
     transformer_ux,
 )
 from judge import Amperes
-from reference import TABLE, StandIn
+from reference import StandIn
 
 FAULTS = {}
 
@@ -41,23 +41,30 @@ def planted(kind):
 class WrongTableEntry(StandIn):
     """K(137) one too low; it should be 1,037."""
 
-    def thousandths(self, values):
-        place = self.table_place(values)
-        return TABLE[place] - (place == 137)
+    def entry(self, i):
+        return super().entry(i) - (i == 137)
 
 
 @planted
 class LostMinusSign(StandIn):
     """κ with e to the power +3R/X, as document 003 prints it."""
 
-    def thousandths(self, values):
-        return int(1020 + 980 * series(Fraction(3 * self.table_place(values), 100)))
+    def entry(self, i):
+        return int(1020 + 980 * series(Fraction(3 * min(i, 230), 100)))
 
 
 @planted
 class RatioRoundedUp(StandIn):
-    def table_place(self, values):
-        return min(230, -(-100 * values.r // values.x))
+    def step(self, values):
+        return min(16 * 230, -(-1600 * values.r // values.x))
+
+
+@planted
+class EntriesWithoutSteps(StandIn):
+    """The entry at or below R/X: a peak by demand 3, and not as near as is promised."""
+
+    def step(self, values):
+        return super().step(values) // 16 * 16
 
 
 @planted
@@ -66,8 +73,18 @@ class PeakTooHigh(StandIn):
 
     def amperes(self, study, bus):
         given = super().amperes(study, bus)
-        exact = self.judges(study)[bus].machines.peak_estimate()
-        return given._replace(machines_peak=102 * exact // 100 + 8)
+        least = self.judges(study)[bus].machines.peak_ceiling()
+        return given._replace(machines_peak=102 * least // 100 + 8)
+
+
+@planted
+class ConverterPeakTwoAbove(StandIn):
+    """By demand 3 still a peak, and 1 A more than is promised."""
+
+    def amperes(self, study, bus):
+        given = super().amperes(study, bus)
+        some = given.converters_peak > 0
+        return given._replace(converters_peak=given.converters_peak + 2 * some)
 
 
 @planted

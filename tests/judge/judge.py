@@ -1,4 +1,5 @@
-"""Whether six amperes are right for a bus, by demand 3 and never by bytes.
+"""Whether six amperes are right for a bus, by demand 3 and never by bytes; and
+whether its peaks are as near as the product promises beside demand 3.
 
 Enclosure is decided by squares of whole numbers.  A peak is compared with its
 exact square by a rigorous enclosure of T(3R/X) first (exact.kappa_bounds); only
@@ -13,6 +14,10 @@ from typing import NamedTuple
 from exact import CONVERTER, FIXED_BITS, kappa_bounds, series
 
 LIMIT = 2**53
+
+# Promised beside demand 3: what a peak may be of the exact one, 1 A apart.
+MACHINES_NEAR = Fraction(10015, 10000)
+CONVERTERS_NEAR = Fraction(10**8 + 1, 10**8)
 
 
 class Amperes(NamedTuple):
@@ -88,10 +93,13 @@ class MachinesPart:
         n = self.floor()
         return n if self.compare(n) == 0 else n + 1
 
-    def peak_estimate(self):
-        """E to within one ampere, for figures only."""
+    def peak_ceiling(self):
+        """The least whole peak."""
         square = 2 * self.values.square_top * self.bounds[0] ** 2 >> 2 * FIXED_BITS
-        return isqrt(square // self.values.square_bottom)
+        n = isqrt(square // self.values.square_bottom)
+        while self.compare_peak(n * n, 1) < 0:
+            n += 1
+        return n
 
 
 class ConvertersPart:
@@ -139,6 +147,12 @@ class BusJudge:
         found += peak_reasons("converters", amperes.converters_peak, self.converters)
         return found
 
+    def near_reasons(self, amperes):
+        """Why the peaks are not as near as is promised beside demand 3."""
+        found = near_reasons("machines", amperes.machines_peak, self.machines, MACHINES_NEAR)
+        found += near_reasons("converters", amperes.converters_peak, self.converters, CONVERTERS_NEAR)
+        return found
+
 
 def pair_reasons(name, lower, upper, part):
     found = []
@@ -158,6 +172,14 @@ def peak_reasons(name, n, part):
     if n > 4 and part.compare_peak((n - 4) ** 2 * 100**2, 102**2) > 0:
         found.append(f"{name}' peak {n} is more than 2 % and 4 A above the exact peak")
     return found
+
+
+def near_reasons(name, n, part, share):
+    """`share` is what a peak may be of the exact one before 1 A is added."""
+    square = share.numerator**2, share.denominator**2
+    if n > 1 and part.compare_peak((n - 1) ** 2 * square[1], square[0]) > 0:
+        return [f"{name}' peak {n} is more than {float(share - 1):g} and 1 A above the exact peak"]
+    return []
 
 
 def verdict(amperes, bus):

@@ -4,7 +4,7 @@ python3 tests/judge/reference.py program < file.csv
 python3 tests/judge/reference.py console
 
 It serves to test run.py.  Bounds are the whole numbers next to the exact
-parts, peaks come from the peak table.  --fault plants one of faults.py.
+parts, peaks come from sixteen steps between the entries of the peak table.  --fault plants one of faults.py.
 """
 
 import argparse
@@ -42,16 +42,22 @@ class StandIn:
             self.worked_out = study, self.bench.judges(network)
         return self.worked_out[1]
 
-    def table_place(self, values):
-        return min(230, 100 * values.r // values.x)
+    def step(self, values):
+        """R/X in 1,600ths, up to the end of the table."""
+        return min(16 * 230, 1600 * values.r // values.x)
 
-    def thousandths(self, values):
-        return TABLE[self.table_place(values)]
+    def entry(self, i):
+        return TABLE[min(i, 230)]
+
+    def sixteen_thousandths(self, values):
+        """Between two entries in sixteen even steps."""
+        i, s = divmod(self.step(values), 16)
+        return (16 - s) * self.entry(i) + s * self.entry(i + 1)
 
     def machines_peak(self, values):
-        """Least whole number not below √2·I·K/1,000."""
-        top = 2 * values.square_top * self.thousandths(values) ** 2
-        bottom = values.square_bottom * 10**6
+        """Least whole number not below √2·I·V/16,000."""
+        top = 2 * values.square_top * self.sixteen_thousandths(values) ** 2
+        bottom = values.square_bottom * 16000**2
         n = isqrt(top // bottom)
         return n if n * n * bottom >= top else n + 1
 

@@ -95,7 +95,8 @@ def report(tally):
     print(f"refused by ground: {grounds}")
     for figure, meaning in (
         ("width", "widest pair against its allowance of 2 A and a thousandth"),
-        ("peak", "peak farthest above, against its allowance of 2 % and 4 A"),
+        ("peak", "peak farthest above the least whole one, against 2 % and 4 A"),
+        ("near", "machines' peak farthest above the least whole one, against 0.15 % and 1 A"),
     ):
         if figure in tally.worst:
             print(f"{meaning}: {tally.worst[figure]:.3f}")

@@ -8,7 +8,6 @@ has to find.  Nothing of the product is run.
 import sys
 import time
 from fractions import Fraction
-from math import isqrt
 from random import Random
 
 from accept import Study
@@ -20,7 +19,7 @@ from fixed import fixed_networks, table_steps
 from judge import Amperes, Bench, peak_reasons, verdict
 from networks import FAMILIES, any_network, crowd, full_tree, random_tree
 from plain import PlainNetwork
-from reference import TABLE, InProcess, StandIn
+from reference import InProcess, StandIn
 from refusals import chain_rows, lone_bus, near_misses
 from run import Commands
 from texts import meant_texts
@@ -207,19 +206,34 @@ def judge_borders(tests):
     ):
         reasons = "; ".join(judge.reasons(right._replace(**changes)))
         tests.true(f"{changes}: {reasons}", words in reasons if words else not reasons)
+    for changes, near in (
+        ({"machines_peak": 21774}, True),
+        ({"machines_peak": 21806}, True),
+        ({"machines_peak": 21807}, False),
+        ({"converters_peak": 283}, True),
+        ({"converters_peak": 284}, False),
+    ):
+        reasons = judge.near_reasons(right._replace(**changes))
+        tests.same(f"near: {changes}: {reasons}", not reasons, near)
 
 
 def each_table_entry(tests):
     """Any single entry of the peak table one too low is found by the steps of R/X."""
-    found = set()
+
+    class OneTooLow(StandIn):
+        low = None
+
+        def entry(self, i):
+            return super().entry(i) - (i == self.low)
+
+    stand_in, found = OneTooLow(), set()
     for _, draft in table_steps():
         for judge in BENCH.judges(study_of(draft).network()):
-            values = judge.machines.values
-            place = min(230, 100 * values.r // values.x)
-            lower = TABLE[place] - 1
-            peak = isqrt(2 * values.square_top * lower**2 // (values.square_bottom * 10**6)) + 1
+            entry = stand_in.step(judge.machines.values) // 16
+            stand_in.low = entry
+            peak = stand_in.machines_peak(judge.machines.values)
             if peak_reasons("", peak, judge.machines):
-                found.add(place)
+                found.add(entry)
     tests.same("table entries guarded", found, set(range(231)))
 
 
