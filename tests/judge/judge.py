@@ -178,7 +178,7 @@ def near_reasons(name, n, part, share):
     """`share` is what a peak may be of the exact one before 1 A is added."""
     square = share.numerator**2, share.denominator**2
     if n > 1 and part.compare_peak((n - 1) ** 2 * square[1], square[0]) > 0:
-        return [f"{name}' peak {n} is more than {float(share - 1):g} and 1 A above the exact peak"]
+        return [f"{name}' peak {n} is more than {float(100 * (share - 1)):g} % and 1 A above the exact peak"]
     return []
 
 
