@@ -22,7 +22,8 @@ use Rattle.enclosure.specs.Doubles.{scaled, lowerOf, upperOf}
 use Rattle.enclosure.specs.Fair.{value, size, Fine}
 use Rattle.enclosure.specs.Range.{reach, Good, good-sized, Factor, f64-rules}
 use Rattle.enclosure.specs.Amperes.{Enclosed, encloses}
-use Rattle.elements.specs.FineTable.{fineFactor, fineFactor-sized}
+use Rattle.elements.specs.FineTable.{fineFactor}
+use Rattle.elements.specs.FineTableLaw.{fineFactor-sized}
 use Rattle.elements.specs.Peak.{peakOver, peakUnder}
 use Rattle.elements.specs.NearPeak.{NearMachinePeak, NearConverterPeak}
 use Rattle.elements.specs.PeakLaw.{peak-near, Index}

@@ -3,6 +3,7 @@ pub mod Exponential
 pub mod Below
 pub mod PeakTable
 pub mod FineTable
+pub mod FineTableLaw
 pub mod Peak
 pub mod NearPeak
 pub mod PeakLaw

@@ -8,7 +8,8 @@ use native.Mathlib.Omega.{arith}
 use native.Mathlib.Nat.{mul-le-mul, mul-pos, eq-or-lt-of-le}
 use Rattle.algebra.specs.Reading.{identity, from, from-over, read, _⊹_, _⋆_}
 use Rattle.elements.specs.Exponential.{tOver, tUnder, t-grows, tOver-pos, tOver-scale, tUnder-scale}
-use Rattle.elements.specs.FineTable.{fineFactor, fine-high, spread, fine-near, fine-near-last}
+use Rattle.elements.specs.FineTable.{fineFactor}
+use Rattle.elements.specs.FineTableLaw.{fine-high, spread, fine-near, fine-near-last}
 use Rattle.elements.specs.Peak.{crest, peakOver, peakUnder, PeakBound}
 use Rattle.elements.specs.NearPeak.{NearPeak, NearMachinePeak}
 
