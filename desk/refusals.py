@@ -1,0 +1,289 @@
+"""The words of each ground: what the program refused, at the row that it gave. Nothing is refused here.
+
+A finder takes the case, looks for the reasons of one ground and gives them as findings. Where none is found the explanation
+says so; the program's answer stands all the same.
+"""
+from typing import NamedTuple
+
+from desk import form
+from desk.mend import mended
+from desk.numbers import value_of
+from desk.records import (BRANCHES, FEEDER, MOST_BRANCHES, MOST_BUSES, MOST_BYTES, MOST_SOURCES, MOST_TRANSFORMERS, ROWS, SOURCES,
+                          TRANSFORMER, allowed, fields_of, is_allowed, kind_of, label, listed, measured, place_of, rows_of)
+from desk.show import Finding, picture
+
+GROUNDS = {
+    1: "the tolerance is not 6 or 10",
+    2: "the nominal voltage is out of range",
+    3: "the parent is not a bus with a smaller number (bus 0 has parent 0)",
+    4: "the branch kind is not 1 for a line or 2 for a transformer (bus 0 has kind 0)",
+    5: "a branch field is out of range, is not used and not 0, or r and x are both 0",
+    6: "a line joins two different nominal voltages",
+    7: "a rated voltage of the transformer is not within 9/10 to 11/10 of its bus's nominal voltage",
+    8: "the bus is too deep: too many branches, or too many transformers, lead to it from bus 0",
+    9: "a rating is out of range",
+    10: "the source kind is not known",
+    11: "there is no such bus for the source",
+    12: "a source field is out of range, or is not used and not 0",
+    13: "the machine's rated voltage is not within 9/10 to 11/10 of its bus's nominal voltage",
+    14: "the first source is not a feeder, a feeder is elsewhere than at bus 0, or it is a second one",
+    16: "the text breaks the form of a study file",
+    23: "the bus table is full",
+    24: "the source table is full",
+    25: "the study has no source",
+}
+NO_CAUSE = "What is wrong there this command cannot tell; the program's answer stands."
+
+
+class Record(NamedTuple):
+    """A row of the file, its number from 1, its letter and the values of its fields."""
+    row: int
+    letter: str
+    values: tuple
+
+
+class Case(NamedTuple):
+    """A refused record, and the buses and sources that were accepted above it."""
+    record: Record
+    buses: tuple
+    sources: tuple
+
+
+def record_of(row, content):
+    """The record in a row, or None where the row has not the form of one."""
+    letter, *fields = content.split(b",")
+    values = tuple(value_of(field) for field in fields)
+    letter = letter.decode("latin-1")
+    whole = letter in ROWS and len(values) == len(fields_of(letter)) and None not in values
+    return Record(row, letter, values) if whole else None
+
+
+def case_of(text, number):
+    """The case of the row of that number, or None."""
+    records = [record_of(k + 1, content) for k, content in enumerate(rows_of(text)[:number])]
+    if not records or records[-1] is None or len(records) < number:
+        return None
+    above = [record for record in records[:-1] if record]
+    return Case(records[-1], tuple(one for one in above if one.letter == "B"), tuple(one for one in above if one.letter == "P"))
+
+
+def places(content, wanted):
+    """Where the fields of these numbers, from 0, stand in a row."""
+    cut = form.split_at(content, b",")[1:]
+    return tuple(cut[k] for k in wanted)
+
+
+class Fault(NamedTuple):
+    """A sentence about some fields, by their numbers from 0, before their places in the row are known."""
+    words: str
+    fields: tuple = ()
+    ground: int = 0
+
+
+# ---- fields with a range of their own
+
+def out_of_range(record):
+    """Every field of a record that is outside its own range, with the ground that this is."""
+    letter, values = record.letter, record.values
+    faults = []
+    for k, field in enumerate(fields_of(letter, values)):
+        if not is_allowed(field, values[k], letter, values):
+            due = allowed(field, letter, values)
+            faults.append(Fault(f"{label(field, k)} is {measured(values[k], field.unit)}; allowed is {due}.", (k,), field.ground))
+    return faults + both_zero(record)
+
+
+def both_zero(record):
+    kind = kind_of(record.letter, record.values)
+    pair = tuple(place_of(record.letter, record.values, name) for name in kind.not_both_zero) if kind else ()
+    if not pair or any(record.values[k] for k in pair):
+        return []
+    fields = fields_of(record.letter, record.values)
+    names = listed(label(fields[k], k) for k in pair)
+    return [Fault(f"{names} are both 0; a {kind.name} has at least one of them above 0.", pair, fields[pair[0]].ground)]
+
+
+def ranges(number):
+    """A finder of fields out of range: those of this ground first, then what else is out of range in the row."""
+    def finder(case):
+        faults = out_of_range(case.record)
+        others = [fault._replace(words=f"In the same row, {fault.words}") for fault in faults if fault.ground != number]
+        own = [fault for fault in faults if fault.ground == number]
+        return own + others if own else []
+    return finder
+
+
+# ---- buses
+
+def those(buses):
+    """Which buses there are."""
+    if not buses:
+        return "no bus stands above this row"
+    return "only bus 0 stands above this row" if len(buses) == 1 else f"buses 0 to {len(buses) - 1} stand above this row"
+
+
+def parent(case):
+    number, named = len(case.buses), case.record.values[0]
+    if number == 0:
+        return [Fault(f"Field 1 (parent) is {named:,}; this is the first bus, bus 0, and its parent is 0.", (0,))]
+    return [Fault(f"Field 1 (parent) is {named:,}; this row is bus {number}, and {those(case.buses)}.", (0,))]
+
+
+def branch_kind(case):
+    named = case.record.values[2]
+    if not case.buses:
+        return [Fault(f"Field 3 (branch kind) is {named:,}; this is the first bus, bus 0, and its kind is 0.", (2,))]
+    kinds = listed((f"{kind} for a {BRANCHES[kind].name}" for kind in BRANCHES if kind), "or")
+    return [Fault(f"Field 3 (branch kind) is {named:,}; allowed is {kinds}.", (2,))]
+
+
+def parent_of(case):
+    """The parent's number and record."""
+    number = case.record.values[0]
+    return number, case.buses[number]
+
+
+def line_volts(case):
+    number, above = parent_of(case)
+    here, there = case.record.values[1], above.values[1]
+    return [Fault(f"The line joins this bus at {here:,} V and its parent, bus {number} (row {above.row}), at {there:,} V; "
+                  "a line joins equal nominal voltages.", (1,))] if here != there else []
+
+
+def rated(field, k, value, bus, volts):
+    """A rated voltage outside 9/10 to 11/10 of the nominal voltage; the ends in whole volts."""
+    low, high = -(-9 * volts // 10), 11 * volts // 10
+    if low <= value <= high:
+        return []
+    return [Fault(f"{label(field, k)} is {value:,} V; {bus} has a nominal voltage of {volts:,} V, so that allowed is "
+                  f"{low:,} to {high:,} V.", (k,))]
+
+
+def transformer_volts(case):
+    number, above = parent_of(case)
+    sides = {"parent": (f"the parent, bus {number} (row {above.row}),", above.values[1]),
+             "bus": ("this bus", case.record.values[1])}
+    return rated_fields(case, sides)
+
+
+def machine_volts(case):
+    number = case.record.values[1]
+    bus = case.buses[number]
+    return rated_fields(case, {"bus": (f"bus {number} (row {bus.row})", bus.values[1])})
+
+
+def rated_fields(case, sides):
+    fields = fields_of(case.record.letter, case.record.values)
+    return [fault for k, field in enumerate(fields) if field.rated_at in sides
+            for fault in rated(field, k, case.record.values[k], *sides[field.rated_at])]
+
+
+def way(case):
+    """The buses from this one's parent up to bus 0."""
+    number = case.record.values[0]
+    buses = [number]
+    while number and len(buses) <= len(case.buses):
+        number = case.buses[number].values[0]
+        buses.append(number)
+    return buses
+
+
+def depth(case):
+    buses = way(case)
+    kinds = [case.record.values[2]] + [case.buses[number].values[2] for number in buses[:-1]]
+    branches, transformers = len(kinds), kinds.count(TRANSFORMER)
+    route = ", ".join(str(number) for number in reversed(buses))
+    if branches <= MOST_BRANCHES and transformers <= MOST_TRANSFORMERS:
+        return []
+    return [Fault(f"From bus 0 to this bus lead {branches} branches, {transformers} of them transformers; allowed are "
+                  f"{MOST_BRANCHES} and {MOST_TRANSFORMERS}. They go by way of bus {route}.", (0,))]
+
+
+# ---- sources
+
+def source_kind(case):
+    kinds = listed((f"{kind} for a {SOURCES[kind].name}" for kind in SOURCES), "or")
+    return [Fault(f"Field 1 (source kind) is {case.record.values[0]:,}; allowed is {kinds}.", (0,))]
+
+
+def source_bus(case):
+    return [Fault(f"Field 2 (bus) is {case.record.values[1]:,}; {those(case.buses)}. A row names only buses above it.", (1,))]
+
+
+def feeder(case):
+    kind, bus = case.record.values[:2]
+    name = SOURCES[kind].name if kind in SOURCES else "source"
+    faults = []
+    if case.sources and kind == FEEDER:
+        faults.append(Fault(f"This is a second feeder; the feeder stands in row {case.sources[0].row}, and there is one alone.", (0,)))
+    if not case.sources and kind != FEEDER:
+        faults.append(Fault(f"The first source is a {name}; it has to be the feeder, kind {FEEDER}, at bus 0.", (0,)))
+    if kind == FEEDER and bus != 0:
+        faults.append(Fault(f"The feeder is at bus {bus}; it has to be at bus 0.", (1,)))
+    return faults
+
+
+# ---- the study
+
+def full(most, name):
+    def finder(case):
+        return [Fault(f"{most} {name} stand above this row, and a study has at most {most}.")]
+    return finder
+
+
+def no_source(case):
+    return [Fault("No row of the file is a P row; the first source is the feeder, at bus 0, for instance `P,1,0,500000,10,0,0,0`.")]
+
+
+FINDERS = {
+    1: ranges(1), 2: ranges(2), 3: parent, 4: branch_kind, 5: ranges(5), 6: line_volts, 7: transformer_volts, 8: depth,
+    9: ranges(9), 10: source_kind, 11: source_bus, 12: ranges(12), 13: machine_volts, 14: feeder,
+    23: full(MOST_BUSES, "buses"), 24: full(MOST_SOURCES, "sources"), 25: no_source,
+}
+
+
+# ---- the explanation
+
+def of_record(text, number, row):
+    """The findings of every ground but 16."""
+    case = case_of(text, row)
+    if case is None or number not in FINDERS:
+        return []
+    try:
+        faults = FINDERS[number](case)
+    except IndexError:  # the record names a bus that is not there, which is another ground than the program gave
+        return []
+    content = rows_of(text)[row - 1]
+    return [Finding(fault.words, places(content, fault.fields)) for fault in faults]
+
+
+def hint(text, row, found):
+    """What of it `board --fix` mends."""
+    result, changes = mended(text)
+    settled = {change.name for change in changes if change.settles(row)}
+    if changes and 0 < len(result) <= MOST_BYTES:
+        settled.add("length")
+    mends = [one for one in found if one.mend in settled]
+    if not mends:
+        return []
+    if len(mends) == len(found):
+        return ["`board --fix IN OUT` mends this."]
+    return ["`board --fix IN OUT` mends a part of this: " + "; ".join(sorted({one.mend for one in mends})) + "."]
+
+
+def capital(words):
+    return words[:1].upper() + words[1:]
+
+
+def explained(text, number, row):
+    """The explanation of the program's answer `refused,number,row` to a text."""
+    found = form.findings(text, row) if number == 16 else of_record(text, number, row)
+    rows = rows_of(text)
+    content = rows[row - 1] if 0 < row <= len(rows) else b""
+    marks = tuple(place for one in found for place in one.places)
+    reason = GROUNDS.get(number, "a ground that this command does not know")
+    sentences = [capital(one.words) for one in found] or [NO_CAUSE]
+    if number == 16:
+        sentences += hint(text, row, found)
+    return "\n".join([f"refused: {reason} (ground {number}).", picture(f"row {row}: ", content, marks)]
+                     + ["  " + sentence for sentence in sentences])
