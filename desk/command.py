@@ -135,15 +135,15 @@ def fixed(source, target, force):
     if target == "-":
         raise Trouble("the mended study goes to a file; `-` is no name for it")
     if files.is_same(source, target):
-        raise Trouble(f"{source} and {target} are the same file, which is never changed; name another for the mended study")
+        raise Trouble(f"{target} is the file to be mended, which is never changed; name another for the mended study")
     text = files.read(source)
     if len(text) > MOST_READ:
-        raise Trouble(f"{source} has more than {MOST_READ:,} bytes, and is no study that could be mended")
+        raise Trouble(f"{files.name_of(source)} has more than {MOST_READ:,} bytes, and is no study that could be mended")
     result, changes = mended(text)
+    got = answer(result)  # before anything is written: where the program cannot be run, no file is left behind
     files.write(target, result, force)
     said = ["Changed:"] + [reported(change) for change in changes] if changes else ["Nothing was to be mended."]
-    said.append(f"{target} is written, {len(result):,} bytes" + ("." if changes else f", the same as {source}."))
-    got = answer(result)
+    said.append(f"{target} is written, {len(result):,} bytes" + ("." if changes else f", the same as {files.name_of(source)}."))
     if isinstance(got, Refusal):
         return 1, "\n".join(said + ["The program does not accept it:", explained(result, *got)])
     return 0, "\n".join(said + [f"The program accepts it: {len(got)} {'bus' if len(got) == 1 else 'buses'}."])

@@ -14,14 +14,17 @@ def opened(path):
     return sys.stdin.buffer
 
 
+def name_of(path):
+    return "standard input" if path == "-" else path
+
+
 def read(path):
     """The bytes of a file, of standard input for `-`; one byte beyond MOST_READ where there are more."""
-    name = "standard input" if path == "-" else path
     try:
         with opened(path) as source:
             return source.read(MOST_READ + 1)
     except (OSError, ValueError) as error:
-        raise Trouble(f"{name}: {reason(error)}") from None
+        raise Trouble(f"{name_of(path)}: {reason(error)}") from None
 
 
 def is_same(source, target):

@@ -118,6 +118,8 @@ STEPS = (
 def mended(text):
     """The text as it should be, as far as that is certain, and the changes."""
     text, decoded = plain(text)
+    if wide(text) and not decoded:  # a damaged UTF-16 text, whose bytes mean nothing one by one
+        return text, []
     text, bared = unmarked(text)
     lines, changes = lines_of(text), decoded + bared
     for step in STEPS:

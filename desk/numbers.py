@@ -16,6 +16,7 @@ class Oddity(NamedTuple):
     start: int
     end: int
     mend: str = ""
+    anew: bool = False  # another number is needed, so that it helps to know which are allowed
 
 
 WHOLE = "numbers are whole"
@@ -68,9 +69,9 @@ def odd_digits(digits):
     if size > 1 and zeros:
         return [Oddity("Leading zeros stand in", "a number begins with its first digit that counts", 0, min(zeros, size - 1))]
     if size > MOST_DIGITS:
-        return [Oddity(f"More than {MOST_DIGITS} digits stand in", f"the largest number is {LARGEST:,}", 0, size)]
+        return [Oddity(f"More than {MOST_DIGITS} digits stand in", f"the largest number is {LARGEST:,}", 0, size, anew=True)]
     if int(digits) > LARGEST:
-        return [Oddity("A number of 2^32 or above stands in", f"the largest number is {LARGEST:,}", 0, size)]
+        return [Oddity("A number of 2^32 or above stands in", f"the largest number is {LARGEST:,}", 0, size, anew=True)]
     return []
 
 
@@ -88,7 +89,7 @@ def odd_number(content):
     for words, advice, whole, place in PATTERNS:
         if re.fullmatch(whole, content, re.DOTALL):
             at = re.search(place, content, re.DOTALL)
-            return [Oddity(words, advice, at.start(), at.end())]
+            return [Oddity(words, advice, at.start(), at.end(), anew=advice != PLAIN)]
     return [odd_byte(content)]
 
 
@@ -102,7 +103,7 @@ def unsigned(content):
     if not sign or sign.end() == len(content):
         return odd_number(content)
     rest = shifted(odd_number(content[sign.end():]), sign.end())
-    return [Oddity("A sign stands before", "numbers have no sign", 0, sign.end())] + rest
+    return [Oddity("A sign stands before", "numbers have no sign", 0, sign.end(), anew=True)] + rest
 
 
 def unquoted(content):
@@ -118,7 +119,7 @@ def oddities(field):
     """Everything that is odd about a field; nothing where it is a number."""
     bare = field.strip(BLANKS)
     if not field:
-        return [Oddity("Nothing stands in", "a field that is not used is 0", 0, 0)]
+        return [Oddity("Nothing stands in", "a field that is not used is 0", 0, 0, anew=True)]
     if not bare:
         return [Oddity(f"{blank_name(field)} alone stand in", "a field that is not used is 0", 0, len(field))]
     return around(field, bare) + shifted(unquoted(bare), field.index(bare))

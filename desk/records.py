@@ -42,6 +42,7 @@ class Row(NamedTuple):
     first: tuple
     kinds: dict
     kind_at: int        # the place of the kind among the fields
+    between: str = ""   # what a field is called that depends on the kind, while the kind is not known
     last: tuple = ()
 
 
@@ -100,10 +101,10 @@ ROWS = {
     "B": Row("bus", (
         Field("parent", 3),
         Field("nominal voltage", 2, "V", 100, 420_000),
-        Field("branch kind", 4)), BRANCHES, 2, (
+        Field("branch kind", 4)), BRANCHES, 2, "branch field", (
         Field("rated initial current", 9, "A", 1, 1_000_000),
         Field("rated peak current", 9, "A", 1, 3_000_000))),
-    "P": Row("source", (Field("source kind", 10, choices=tuple(SOURCES)), Field("bus", 11)), SOURCES, 0),
+    "P": Row("source", (Field("source kind", 10, choices=tuple(SOURCES)), Field("bus", 11)), SOURCES, 0, "source field"),
 }
 
 
@@ -115,9 +116,8 @@ def rows_of(text):
 
 def unnamed(row):
     """The fields that depend on the kind, while the kind is not known: numbered, with no range."""
-    word = "branch field" if row.kinds is BRANCHES else "source field"
     width = max((len(kind.fields) for kind in row.kinds.values()), default=0)
-    return tuple(Field(f"{word} {place + 1}", 0) for place in range(width))
+    return tuple(Field(f"{row.between} {place + 1}", 0) for place in range(width))
 
 
 def kind_of(letter, values):
@@ -132,6 +132,13 @@ def fields_of(letter, values=()):
     row = ROWS[letter]
     kind = kind_of(letter, values)
     return row.first + (kind.fields if kind else unnamed(row)) + row.last
+
+
+def summary(letter, values):
+    """The names of a row's fields, in their order."""
+    row, kind = ROWS[letter], kind_of(letter, values)
+    between = [field.name for field in kind.fields] if kind else [f"{len(unnamed(row))} {row.between}s"] if row.kinds else []
+    return ", ".join([field.name for field in row.first] + between + [field.name for field in row.last])
 
 
 def place_of(letter, values, name):

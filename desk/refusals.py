@@ -8,7 +8,7 @@ from typing import NamedTuple
 from desk import form
 from desk.mend import mended
 from desk.numbers import value_of
-from desk.records import (BRANCHES, FEEDER, MOST_BRANCHES, MOST_BUSES, MOST_BYTES, MOST_SOURCES, MOST_TRANSFORMERS, ROWS, SOURCES,
+from desk.records import (BRANCHES, FEEDER, LINE, MOST_BRANCHES, MOST_BUSES, MOST_BYTES, MOST_SOURCES, MOST_TRANSFORMERS, ROWS, SOURCES,
                           TRANSFORMER, allowed, fields_of, is_allowed, kind_of, label, listed, measured, place_of, rows_of)
 from desk.show import Finding, picture
 
@@ -43,10 +43,11 @@ class Record(NamedTuple):
 
 
 class Case(NamedTuple):
-    """A refused record, and the buses and sources that were accepted above it."""
+    """A refused record, the buses and sources that were accepted above it, and how many rows stand below it."""
     record: Record
     buses: tuple
     sources: tuple
+    below: int
 
 
 def record_of(row, content):
@@ -60,11 +61,12 @@ def record_of(row, content):
 
 def case_of(text, number):
     """The case of the row of that number, or None."""
-    records = [record_of(k + 1, content) for k, content in enumerate(rows_of(text)[:number])]
+    rows = rows_of(text)
+    records = [record_of(k + 1, content) for k, content in enumerate(rows[:number])]
     if not records or records[-1] is None or len(records) < number:
         return None
-    above = [record for record in records[:-1] if record]
-    return Case(records[-1], tuple(one for one in above if one.letter == "B"), tuple(one for one in above if one.letter == "P"))
+    buses, sources = (tuple(one for one in records[:-1] if one and one.letter == letter) for letter in "BP")
+    return Case(records[-1], buses, sources, len(rows) - number)
 
 
 def places(content, wanted):
@@ -117,13 +119,15 @@ def ranges(number):
 
 def those(buses):
     """Which buses there are."""
-    if not buses:
-        return "no bus stands above this row"
-    return "only bus 0 stands above this row" if len(buses) == 1 else f"buses 0 to {len(buses) - 1} stand above this row"
+    if len(buses) < 2:
+        return "only bus 0 stands above this row" if buses else "no bus stands above this row"
+    return f"buses 0 {'to' if len(buses) > 2 else 'and'} {len(buses) - 1} stand above this row"
 
 
 def parent(case):
     number, named = len(case.buses), case.record.values[0]
+    if named < max(number, 1):
+        return []
     if number == 0:
         return [Fault(f"Field 1 (parent) is {named:,}; this is the first bus, bus 0, and its parent is 0.", (0,))]
     return [Fault(f"Field 1 (parent) is {named:,}; this row is bus {number}, and {those(case.buses)}.", (0,))]
@@ -131,6 +135,8 @@ def parent(case):
 
 def branch_kind(case):
     named = case.record.values[2]
+    if named in BRANCHES and (named == 0) == (not case.buses):
+        return []
     if not case.buses:
         return [Fault(f"Field 3 (branch kind) is {named:,}; this is the first bus, bus 0, and its kind is 0.", (2,))]
     kinds = listed((f"{kind} for a {BRANCHES[kind].name}" for kind in BRANCHES if kind), "or")
@@ -146,8 +152,10 @@ def parent_of(case):
 def line_volts(case):
     number, above = parent_of(case)
     here, there = case.record.values[1], above.values[1]
+    if case.record.values[2] != LINE or here == there:
+        return []
     return [Fault(f"The line joins this bus at {here:,} V and its parent, bus {number} (row {above.row}), at {there:,} V; "
-                  "a line joins equal nominal voltages.", (1,))] if here != there else []
+                  "a line joins equal nominal voltages.", (1,))]
 
 
 def rated(field, k, value, bus, volts):
@@ -202,11 +210,14 @@ def depth(case):
 # ---- sources
 
 def source_kind(case):
+    named = case.record.values[0]
     kinds = listed((f"{kind} for a {SOURCES[kind].name}" for kind in SOURCES), "or")
-    return [Fault(f"Field 1 (source kind) is {case.record.values[0]:,}; allowed is {kinds}.", (0,))]
+    return [Fault(f"Field 1 (source kind) is {named:,}; allowed is {kinds}.", (0,))] if named not in SOURCES else []
 
 
 def source_bus(case):
+    if case.record.values[1] < len(case.buses):
+        return []
     return [Fault(f"Field 2 (bus) is {case.record.values[1]:,}; {those(case.buses)}. A row names only buses above it.", (1,))]
 
 
@@ -225,20 +236,30 @@ def feeder(case):
 
 # ---- the study
 
-def full(most, name):
-    def finder(case):
-        return [Fault(f"{most} {name} stand above this row, and a study has at most {most}.")]
-    return finder
+def full_buses(case):
+    return full(case.buses, MOST_BUSES, "buses")
+
+
+def full_sources(case):
+    return full(case.sources, MOST_SOURCES, "sources")
+
+
+def full(above, most, name):
+    return [Fault(f"{len(above)} {name} stand above this row, and a study has at most {most}.")] if len(above) >= most else []
 
 
 def no_source(case):
+    if case.sources or case.below:
+        return []
     return [Fault("No row of the file is a P row; the first source is the feeder, at bus 0, for instance `P,1,0,500000,10,0,0,0`.")]
 
 
+# the letters of the rows that a ground is about, and its finder
 FINDERS = {
-    1: ranges(1), 2: ranges(2), 3: parent, 4: branch_kind, 5: ranges(5), 6: line_volts, 7: transformer_volts, 8: depth,
-    9: ranges(9), 10: source_kind, 11: source_bus, 12: ranges(12), 13: machine_volts, 14: feeder,
-    23: full(MOST_BUSES, "buses"), 24: full(MOST_SOURCES, "sources"), 25: no_source,
+    1: ("S", ranges(1)), 2: ("B", ranges(2)), 3: ("B", parent), 4: ("B", branch_kind), 5: ("B", ranges(5)), 6: ("B", line_volts),
+    7: ("B", transformer_volts), 8: ("B", depth), 9: ("B", ranges(9)), 10: ("P", source_kind), 11: ("P", source_bus),
+    12: ("P", ranges(12)), 13: ("P", machine_volts), 14: ("P", feeder), 23: ("B", full_buses), 24: ("P", full_sources),
+    25: ("SB", no_source),
 }
 
 
@@ -247,10 +268,11 @@ FINDERS = {
 def of_record(text, number, row):
     """The findings of every ground but 16."""
     case = case_of(text, row)
-    if case is None or number not in FINDERS:
+    letters, finder = FINDERS.get(number, ("", None))
+    if case is None or case.record.letter not in letters:
         return []
     try:
-        faults = FINDERS[number](case)
+        faults = finder(case)
     except IndexError:  # the record names a bus that is not there, which is another ground than the program gave
         return []
     content = rows_of(text)[row - 1]
