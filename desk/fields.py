@@ -1,9 +1,10 @@
 """What is wrong between the separators of a row: its letter, its fields, and how many fields there are."""
 import re
 
-from desk.numbers import BLANKS, around, oddities, value_of
-from desk.records import ROWS, allowed, fields_of, label, listed, rows_of, summary
+from desk.numbers import around, oddities, shifted, value_of
+from desk.records import COUNTS, ROWS, allowed, fields_of, label, listed, rows_of, summary
 from desk.show import Finding, shown
+from desk.texts import BLANKS
 
 MOST_NAMED = 4  # fields that one sentence names
 START = "row 1 is `S,6` or `S,10`"
@@ -77,7 +78,7 @@ def of_fields(line, places):
         return []
     fields = list(enumerate(places[1:]))
     values = [value_of(line[slice(*place)]) for place in places[1:]]
-    due = len(fields_of(letter, values))
+    due = COUNTS[letter]
     surplus = b"".join(line[slice(*place)] for _, place in fields[due:])
     if len(fields) > due and not surplus.strip(BLANKS):
         return of_oddities(line, fields[:due], letter, values) + [of_trailing(places, due)]
@@ -88,10 +89,10 @@ def of_fields(line, places):
 
 def of_oddities(line, fields, letter, values):
     """A finding for each thing that is odd, with all the fields in which it is."""
+    odd = [(k, one) for k, (start, end) in fields for one in shifted(oddities(line[start:end]), start)]
     groups = {}
-    for k, (start, end) in fields:
-        for one in oddities(line[start:end]):
-            groups.setdefault(one.words, []).append((k, one._replace(start=start + one.start, end=start + one.end)))
+    for k, one in odd:
+        groups.setdefault(one.words, []).append((k, one))
     return [of_group(group, letter, values) for group in groups.values()]
 
 
@@ -116,7 +117,7 @@ def of_trailing(places, due):
 
 def of_count(places, letter, values, pairs):
     """Too many fields, or too few; `pairs` are neighbours that look like one number with a comma in it."""
-    found, due = len(places) - 1, len(fields_of(letter, values))
+    found, due = len(places) - 1, COUNTS[letter]
     if found == due:
         return []
     names = summary(letter, () if pairs else values)  # a number in two parts moves the kind away from its place

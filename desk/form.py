@@ -7,10 +7,12 @@ these.
 import re
 
 from desk.fields import START, of_fields, of_letter, split_at
-from desk.numbers import BLANKS
-from desk.records import MOST_BYTES, ROWS, fields_of, rows_of
+from desk.records import COUNTS, MOST_BYTES, ROWS, rows_of
 from desk.show import Finding
-from desk.texts import LINE_END, MARK, MOST_READ, lines_of, wide
+from desk.texts import BLANKS, LINE_END, MARK, MOST_READ, Line, is_void, lines_of, wide
+
+REMARK = re.compile(rb"#|//|--|\*|!|; ")
+BEHIND = re.compile(rb"[ \t]*[0-9]+([ \t]+(?=.*[A-Za-z]).*)", re.DOTALL)  # a number, blanks, and something with a letter in it
 
 
 def findings(text, number):
@@ -84,9 +86,9 @@ def as_others(same, rows):
 def of_line(text, line, number):
     """What is wrong with a row, its line end apart."""
     bare = line.strip(BLANKS)
-    if not bare.strip(BLANKS + b",;"):
+    if is_void(Line(line, b"")):
         return of_blank(text, line, number)
-    if re.match(rb"#|//|--|\*|!|;", bare):
+    if REMARK.match(bare):
         return [Finding("The row is a remark: a study has no remarks.", ((0, len(line)),))]
     if is_header(bare):
         return [Finding(f"The row looks like a header, words in place of numbers: a study has none, and {START}.",
@@ -99,7 +101,7 @@ def of_line(text, line, number):
 
 def of_blank(text, line, number):
     """A row without a letter and a number."""
-    last = not b"".join(rows_of(text)[number:]).strip(BLANKS + b",;\r\n")
+    last = all(is_void(below) for below in lines_of(text)[number:])  # the rows above were accepted, so they are lines as well
     what = "has separators alone" if line.strip(BLANKS) else "is blank"
     where = ("at the end of the file: a study ends with its last record" if last else
              "between others: either it goes, or a record is missing in its place")
@@ -117,17 +119,16 @@ def is_header(bare):
 def wanted(line):
     """How many fields the row's letter wants; 0 where it is no row letter."""
     letter = line.strip(b" \t\"'")[:1].upper().decode("latin-1")
-    return len(fields_of(letter)) if letter in ROWS else 0
+    return COUNTS.get(letter, 0)
 
 
 def words_behind(line):
     """Where words begin that stand behind the last field of a row, as a person would remark on it; else the row's end."""
-    parts = list(re.finditer(rb"[^,;]*", line))
-    starts = [part.start() for part in parts if part.start() == 0 or line[part.start() - 1:part.start()] in (b",", b";")]
+    places = split_at(line, b",;")
     count = wanted(line)
-    if not count or len(starts) <= count:
+    if not count or len(places) <= count:
         return len(line)
-    found = re.compile(rb"[ \t]*[0-9]+([ \t]+(?=.*[A-Za-z]).*)", re.DOTALL).fullmatch(line, starts[count])
+    found = BEHIND.fullmatch(line, places[count][0])
     return found.start(1) if found else len(line)
 
 

@@ -4,10 +4,8 @@ Each step takes the lines of the text, and gives the lines after it with the row
 """
 from typing import NamedTuple
 
-from desk.records import ROWS, fields_of
-from desk.texts import MARK, Line, joined, lines_of, wide
-
-BLANKS = b" \t"
+from desk.records import COUNTS
+from desk.texts import BLANKS, MARK, Line, is_void, joined, lines_of, wide
 
 
 class Change(NamedTuple):
@@ -55,11 +53,6 @@ def with_crlf(lines):
     return new, [Change("line ends", "line ends became CRLF", rows)] if rows else []
 
 
-def is_void(line):
-    """Nothing but blanks and separators, as spreadsheets leave below a table."""
-    return not line.content.strip(BLANKS + b",;")
-
-
 def without_last_blanks(lines):
     """Blank rows at the end go. One between others stays: a row may be missing there, and the buses would be counted wrongly."""
     kept = len(lines)
@@ -87,13 +80,13 @@ def without_blanks(content):
 def letter_of(content):
     """The row letter that a row begins with, capital or small; nothing where it is none."""
     letter = content.split(b",")[0].decode("latin-1").upper()
-    return letter if letter in ROWS else ""
+    return letter if letter in COUNTS else ""
 
 
 def without_last_separators(content):
     """Commas behind the last field go, where the row then has as many fields as its letter wants."""
     letter = letter_of(content)
-    wanted = len(fields_of(letter)) + 1 if letter else 0
+    wanted = COUNTS[letter] + 1 if letter else 0
     fields = content.split(b",")
     return b",".join(fields[:wanted]) if letter and not any(fields[wanted:]) else content
 
@@ -101,7 +94,7 @@ def without_last_separators(content):
 def with_capital(content):
     """A small letter alone before the first comma, in a row with as many fields as that letter wants, can mean nothing else."""
     letter = letter_of(content)
-    fits = letter and content.count(b",") == len(fields_of(letter))
+    fits = letter and content.count(b",") == COUNTS[letter]
     return content[:1].upper() + content[1:] if fits else content
 
 

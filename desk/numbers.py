@@ -4,8 +4,8 @@ from typing import NamedTuple
 
 from desk.records import LARGEST, MOST_DIGITS
 from desk.show import printable
+from desk.texts import BLANKS
 
-BLANKS = b" \t"
 NARROW = rb"\xc2\xa0|\xe2\x80\xaf|\xe2\x80\x89"  # no-break space, narrow no-break space, thin space
 
 
@@ -21,7 +21,7 @@ class Oddity(NamedTuple):
 
 WHOLE = "numbers are whole"
 PLAIN = "a number is its digits alone"
-# The first pattern that is the whole field tells; its group is the place.
+# What is said, what is due, the pattern of the whole field, and the pattern of the place in it; the first that fits tells.
 PATTERNS = (
     ("A thousands separator stands in", PLAIN, rb"\d{1,3}(?:(?:[ '_]|" + NARROW + rb")\d{3})+", rb"[ '_]|" + NARROW),
     ("Thousands separators stand in", PLAIN, rb"\d{1,3}(?:\.\d{3}){2,}", rb"\."),
@@ -29,7 +29,8 @@ PATTERNS = (
     ("A decimal comma stands in", WHOLE, rb"\d*,\d*", rb","),
     ("An exponent stands in", PLAIN, rb"\d+(?:[.,]\d+)?[eE][+-]?\d+", rb"[eE].*"),
     ("Blanks stand between the digits of", PLAIN, rb"\d+(?:[ \t]+\d+)+", rb"[ \t]+"),
-    ("Letters stand behind the number of", "a field has no unit and no words", rb"\d+(?:[.,]\d+)?[ \t]*[A-Za-z%].*", rb"[A-Za-z%].*"),
+    ("Letters stand behind the number of", "a field has no unit and no words", rb"\d+(?:[.,]\d+)?[ \t]*[A-Za-z%].*",
+     rb"[A-Za-z%].*"),
     ("Words stand in", "a field is a number", rb"[A-Za-z].*", rb".+"),
 )
 

@@ -134,6 +134,10 @@ def fields_of(letter, values=()):
     return row.first + (kind.fields if kind else unnamed(row)) + row.last
 
 
+# how many fields a row of each letter has
+COUNTS = {letter: len(fields_of(letter)) for letter in ROWS}
+
+
 def summary(letter, values):
     """The names of a row's fields, in their order."""
     row, kind = ROWS[letter], kind_of(letter, values)

@@ -11,7 +11,7 @@ NAMES = {0: "<NUL>", 9: "<TAB>", 10: "<LF>", 13: "<CR>"}
 
 
 class Finding(NamedTuple):
-    """Something that is wrong in a row: a sentence, the places in the row's bytes as (start, end), and the mend that settles it."""
+    """Something wrong in a row: a sentence, the places in the row's bytes as (start, end), and the mend that settles it."""
     words: str
     places: tuple = ()
     mend: str = ""

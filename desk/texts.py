@@ -13,6 +13,7 @@ WIDE_MARKS = (
     (codecs.BOM_UTF16_BE, "utf-16-be"),
 )
 MARK = codecs.BOM_UTF8
+BLANKS = b" \t"
 # CR CR LF is what a CRLF becomes where a program turns each LF into CRLF once more.
 LINE_END = re.compile(rb"\r+\n|\n|\r")
 
@@ -48,6 +49,11 @@ def lines_of(text):
         lines.append(Line(text[at:end.start()], end.group()))
         at = end.end()
     return lines + [Line(text[at:], b"")] if at < len(text) else lines
+
+
+def is_void(line):
+    """Nothing but blanks and separators, as spreadsheets leave below a table."""
+    return not line.content.strip(BLANKS + b",;")
 
 
 def joined(lines):
