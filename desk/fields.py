@@ -83,7 +83,8 @@ def of_fields(line, places):
     if len(fields) > due and not surplus.strip(BLANKS):
         return of_oddities(line, fields[:due], letter, values) + [of_trailing(places, due)]
     pairs = split_numbers(line, fields) if len(fields) > due else []
-    whole = [field for field in fields if field not in [right for _, right in pairs]]
+    halves = {right for _, right in pairs}
+    whole = [field for field in fields if field not in halves]
     return of_oddities(line, whole, letter, values) + of_count(places, letter, values, pairs)
 
 

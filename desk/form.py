@@ -12,7 +12,8 @@ from desk.show import Finding
 from desk.texts import BLANKS, LINE_END, MARK, MOST_READ, Line, is_void, lines_of, wide
 
 REMARK = re.compile(rb"#|//|--|\*|!|; ")
-BEHIND = re.compile(rb"[ \t]*[0-9]+([ \t]+(?=.*[A-Za-z]).*)", re.DOTALL)  # a number, blanks, and something with a letter in it
+BEHIND = re.compile(rb"[ \t]*[0-9]+([ \t]+[^ \t].*)", re.DOTALL)  # a number, blanks, and something behind them
+LETTER = re.compile(rb"[A-Za-z]")
 
 
 def findings(text, number):
@@ -112,7 +113,7 @@ def is_header(bare):
     """Words alone: the first is no row letter, and nothing between separators is a number."""
     parts = [part.strip(b" \t\"'") for part in re.split(rb"[,;\t]", bare)]
     numbers = any(re.search(rb"^[+-]?[0-9]", part) for part in parts)
-    worded = len(parts) > 1 and all(re.search(rb"[A-Za-z]", part) for part in parts[:2])
+    worded = len(parts) > 1 and all(LETTER.search(part) for part in parts[:2])
     return worded and not numbers and parts[0].upper().decode("latin-1") not in ROWS
 
 
@@ -129,7 +130,7 @@ def words_behind(line):
     if not count or len(places) <= count:
         return len(line)
     found = BEHIND.fullmatch(line, places[count][0])
-    return found.start(1) if found else len(line)
+    return found.start(1) if found and LETTER.search(found.group(1)) else len(line)
 
 
 def cut_up(text, line):
