@@ -127,8 +127,7 @@ def of_count(places, letter, values, pairs):
     if found < due:
         return [Finding(words, ((end, end),))]
     if not pairs:
-        return [Finding(f"{words} A comma within a number, for thousands or decimals, begins another field.",
-                        ((places[due + 1][0], end),))]
+        return [Finding(words, ((places[due + 1][0], end),))]
     looks = f"{len(pairs)} commas look like separators of thousands or decimals" if len(pairs) > 1 else \
         "The comma marked looks like a separator of thousands or decimals"
     return [Finding(f"{words} {looks}: {COMMA}.", tuple((left[1][0], right[1][1]) for left, right in pairs))]
