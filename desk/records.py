@@ -1,0 +1,190 @@
+"""The one room that knows a study's records: every field's name, unit and range, by row letter and kind, and the limits.
+
+It is data for explaining what the program refused; nothing is refused here. A new kind of source is an entry of SOURCES, a
+wider range or a higher limit a number below. The figures are those of document 01, "The study" and "The file".
+"""
+from typing import NamedTuple
+
+MOST_BYTES = 65_536
+MOST_DIGITS = 10
+LARGEST = 2**32 - 1
+MOST_BUSES = 64
+MOST_SOURCES = 256
+MOST_BRANCHES = 18
+MOST_TRANSFORMERS = 4
+TRANSFORMER = 2
+LINE = 1
+FEEDER = 1
+
+
+class Field(NamedTuple):
+    """A field of a record, and what the program allows in it."""
+    name: str
+    ground: int         # the number that the program refuses it with
+    unit: str = ""
+    low: int = 0
+    high: int = LARGEST
+    choices: tuple = ()  # the only values, where they are no range
+    rated_at: str = ""   # a rated voltage: "parent" or "bus", whose nominal voltage it has to suit
+    below: str = ""      # the name of the field that it has to stay below
+
+
+class Kind(NamedTuple):
+    """A kind of branch or of source, and the fields that it gives a meaning to."""
+    name: str
+    fields: tuple
+    not_both_zero: tuple = ()
+
+
+class Row(NamedTuple):
+    """The rows of one letter: fields that all have, those that depend on the kind, and fields after these."""
+    name: str
+    first: tuple
+    kinds: dict
+    kind_at: int        # the place of the kind among the fields
+    between: str = ""   # what a field is called that depends on the kind, while the kind is not known
+    last: tuple = ()
+
+
+def unused(ground):
+    return Field("not used", ground, high=0)
+
+
+def branch(name, unit, low, high):
+    return Field(name, 5, unit, low, high)
+
+
+def given(name, unit, low, high):
+    return Field(name, 12, unit, low, high)
+
+
+RATIO = given("R/X", "hundredths", 0, 200)
+MACHINE_VOLTS = Field("rated voltage", 13, "V", rated_at="bus")
+
+BRANCHES = {
+    0: Kind("bus 0, which has no branch", (unused(5),) * 5),
+    LINE: Kind("line", (
+        branch("r", "micro-ohms per metre", 0, 100_000),
+        branch("x", "micro-ohms per metre", 0, 100_000),
+        branch("length", "metres", 1, 200_000),
+        branch("circuits", "", 1, 8),
+        unused(5)), not_both_zero=("r", "x")),
+    TRANSFORMER: Kind("transformer", (
+        Field("rated voltage on the parent's side", 7, "V", rated_at="parent"),
+        Field("rated voltage on the bus's own side", 7, "V", rated_at="bus"),
+        branch("rated power", "kVA", 10, 1_000_000),
+        branch("uk", "thousandths of a percent", 100, 30_000),
+        Field("uR", 5, "thousandths of a percent", below="uk"))),
+}
+
+SOURCES = {
+    FEEDER: Kind("feeder", (given("short-circuit power", "kVA", 1_000, 100_000_000), RATIO) + (unused(12),) * 3),
+    2: Kind("generator", (
+        MACHINE_VOLTS,
+        given("rated power", "kVA", 10, 1_000_000),
+        given("xd", "thousandths of a percent", 1_000, 100_000),
+        RATIO,
+        given("power factor", "hundredths", 70, 100))),
+    3: Kind("motor", (
+        MACHINE_VOLTS,
+        given("rated power", "kVA", 1, 100_000),
+        given("starting ratio", "tenths", 10, 100),
+        RATIO,
+        unused(12))),
+    4: Kind("converter", (
+        given("rated current", "tenths of an ampere", 1, 100_000),
+        given("k", "hundredths", 100, 300)) + (unused(12),) * 3),
+}
+
+ROWS = {
+    "S": Row("start", (Field("tolerance", 1, "percent", choices=(6, 10)),), {}, -1),
+    "B": Row("bus", (
+        Field("parent", 3),
+        Field("nominal voltage", 2, "V", 100, 420_000),
+        Field("branch kind", 4)), BRANCHES, 2, "branch field", (
+        Field("rated initial current", 9, "A", 1, 1_000_000),
+        Field("rated peak current", 9, "A", 1, 3_000_000))),
+    "P": Row("source", (Field("source kind", 10, choices=tuple(SOURCES)), Field("bus", 11)), SOURCES, 0, "source field"),
+}
+
+
+def rows_of(text):
+    """The rows as the program counts them: CRLF alone ends one, and after a last CRLF none follows."""
+    rows = text.split(b"\r\n")
+    return rows[:-1] if rows[-1] == b"" else rows
+
+
+def unnamed(row):
+    """The fields that depend on the kind, while the kind is not known: numbered, with no range."""
+    width = max((len(kind.fields) for kind in row.kinds.values()), default=0)
+    return tuple(Field(f"{row.between} {place + 1}", 0) for place in range(width))
+
+
+def kind_of(letter, values):
+    """The kind that a row's values name, or None. Values may be numbers, or None where the text has no number."""
+    row = ROWS[letter]
+    named = values[row.kind_at] if 0 <= row.kind_at < len(values) else None
+    return row.kinds.get(named)
+
+
+def fields_of(letter, values=()):
+    """The fields of a row, as its letter and its kind name them."""
+    row = ROWS[letter]
+    kind = kind_of(letter, values)
+    return row.first + (kind.fields if kind else unnamed(row)) + row.last
+
+
+# how many fields a row of each letter has
+COUNTS = {letter: len(fields_of(letter)) for letter in ROWS}
+
+
+def summary(letter, values):
+    """The names of a row's fields, in their order."""
+    row, kind = ROWS[letter], kind_of(letter, values)
+    between = [field.name for field in kind.fields] if kind else [f"{len(unnamed(row))} {row.between}s"] if row.kinds else []
+    return ", ".join([field.name for field in row.first] + between + [field.name for field in row.last])
+
+
+def place_of(letter, values, name):
+    """Where the field of that name stands among the row's fields, from 0."""
+    return [field.name for field in fields_of(letter, values)].index(name)
+
+
+def label(field, place):
+    """How a field is called in a sentence; fields count from 1, behind the letter."""
+    return f"field {place + 1} ({field.name})"
+
+
+def measured(value, unit):
+    return f"{value:,} {unit}".rstrip()
+
+
+def listed(words, last="and"):
+    """1, 2 and 3"""
+    words = [str(word) for word in words]
+    return f" {last} ".join([", ".join(words[:-1]), words[-1]] if len(words) > 1 else words)
+
+
+def allowed(field, letter, values):
+    """What the program allows in a field, in words; nothing where that depends on other rows."""
+    if field.choices:
+        return measured_choices(field)
+    if field.below:
+        limit = values[place_of(letter, values, field.below)]
+        return f"0 to {measured(limit - 1, field.unit)}, less than {field.below}" if limit else f"less than {field.below}"
+    if field.high == 0:
+        return "0, since it is not used"
+    return f"{field.low:,} to {measured(field.high, field.unit)}" if field.high < LARGEST else ""
+
+
+def measured_choices(field):
+    return f"{listed(field.choices, 'or')} {field.unit}".rstrip()
+
+
+def is_allowed(field, value, letter, values):
+    """Whether a value is one that `allowed` names; true where that depends on other rows."""
+    if field.choices:
+        return value in field.choices
+    if field.below:
+        return value < values[place_of(letter, values, field.below)]
+    return field.low <= value <= field.high
