@@ -253,8 +253,9 @@ class Entry:
             return self.mistake(key, f"{key} = {shown(written)}: {field.words} must be {words}")
         if exact.denominator != 1 and field.whole:
             return self.mistake(key, f"{key} = {shown(written)}: {field.words} must be a whole number")
-        self.numbers[field.symbol] = int(exact + Fraction(1, 2)) if exact > 0 else 0
+        self.numbers[field.symbol] = exact.numerator
         if exact.denominator != 1:
+            self.numbers[field.symbol] = int(max(0, exact + Fraction(1, 2)))
             self.note_rounding(key, value, Fraction(self.numbers[field.symbol], unit.times), unit)
 
     def note_rounding(self, key, value, rounded, unit):

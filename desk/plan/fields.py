@@ -120,13 +120,12 @@ def fraction_of(value):
 
 
 def decimal_text(value, comma=""):
-    """A fraction as its decimal, all digits; `comma` parts the thousands."""
-    value, places = Fraction(value), 0
-    while (value * 10**places).denominator != 1:
+    """A fraction that is a decimal, with all its digits; `comma` parts the thousands."""
+    over, under, places = abs(value.numerator), value.denominator, 0
+    while over * 10**places % under:
         places += 1
-    digits = str(abs(int(value * 10**places))).rjust(places + 1, "0")
-    front, behind = digits[:len(digits) - places], digits[len(digits) - places:]
-    return ("-" if value < 0 else "") + f"{int(front):{comma}}" + ("." + behind if behind else "")
+    front, behind = divmod(over * 10**places // under, 10**places)
+    return ("-" if value < 0 else "") + f"{front:{comma}}" + (f".{behind:0{places}}" if places else "")
 
 
 def range_text(low, high, unit):
