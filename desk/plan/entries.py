@@ -95,7 +95,7 @@ def not_toml(said, text):
     """tomllib's words with the line they speak of and, for slips that are common, what to do."""
     words, _, behind = said.rpartition(" (at ")
     at = re.match(r"line (\d+)", behind)
-    lines = text.splitlines() or [""]
+    lines = text.rstrip("\n").split("\n")
     number = min(int(at[1]), len(lines)) if at else len(lines)
     line = lines[number - 1].strip()
     advice = next((advice for start, form, advice in ADVICE if words.startswith(start) and re.search(form, line)), "")
@@ -120,6 +120,8 @@ def shown(value):
     """A value as the TOML has it, shortened."""
     if isinstance(value, bool):
         return str(value).lower()
+    if isinstance(value, (list, dict)) or isinstance(value, int) and abs(value) > 10**40:
+        return "[ .. ]" if isinstance(value, list) else "{ .. }" if isinstance(value, dict) else hex(value)[:20] + " .."
     words = quoted(value) if isinstance(value, str) else str(value).replace("Infinity", "inf").replace("NaN", "nan")
     return words if len(words) <= 40 else words[:40] + " .."
 

@@ -4,7 +4,7 @@ from fractions import Fraction
 from typing import NamedTuple
 
 from .entries import did_you_mean, proposal, quoted
-from .fields import (MOST_BRANCHES, MOST_BUSES, MOST_SOURCES, MOST_TRANSFORMERS, WIDTH, Unit, decimal_text, range_text)
+from .fields import MOST_BRANCHES, MOST_BUSES, MOST_SOURCES, MOST_TRANSFORMERS, WIDTH, decimal_text, range_text
 
 
 class Step(NamedTuple):
@@ -109,44 +109,43 @@ class Tree:
         return feeders[0].bus.get("bus") if feeders else None
 
     def steps_from(self, root):
-        """Buses from the root on, each behind its parent; of those that can be next the first of the file is."""
-        ready, steps, seen = ([] if root is None else [Step(root, root, None, 0, 0)]), [], {root}
+        """Buses from the root on, each behind its parent; of those that can be next the first of the file is.
+
+        What is joined has no loop, so that a neighbour other than the parent is new.
+        """
+        ready, steps = ([] if root is None else [Step(root, root, None, 0, 0)]), []
         while ready:
             step = heapq.heappop(ready)
             steps.append(step)
-            new = [one for one in self.neighbours[step.bus] if one[0] not in seen]
-            seen.update(bus for bus, _ in new)
-            self.push(ready, step, new)
+            self.push_neighbours(ready, step)
         return steps
 
-    @staticmethod
-    def push(ready, step, new):
-        for bus, branch in new:
-            crossed = step.transformers + (branch.kind.table == "transformer")
-            heapq.heappush(ready, Step(bus, step.bus, branch, step.branches + 1, crossed))
+    def push_neighbours(self, ready, step):
+        for bus, branch in self.neighbours[step.bus]:
+            if bus != step.parent:
+                crossed = step.transformers + (branch.kind.table == "transformer")
+                heapq.heappush(ready, Step(bus, step.bus, branch, step.branches + 1, crossed))
 
     # What document 01 asks
 
     def check(self):
         self.check_joined()
         self.check_totals()
-        for entry in self.branches + self.sources:
-            self.check_fields(entry)
-        for step in self.steps:
-            self.check_depth(step)
+        self.check_entries()
+        self.check_depths()
 
     def check_joined(self):
-        """Groups of buses to which nothing leads from the feeder; without a known feeder, buses without any branch."""
+        """Buses to which nothing leads from the feeder, each group once; without a known feeder, buses without any branch."""
         reached = {step.bus for step in self.steps}
-        groups = {}
-        for bus in [bus for bus in self.by_name.values() if bus not in reached]:
-            groups.setdefault(self.together[bus], []).append(bus)
-        for group in groups.values():
-            names = ", ".join(map(self.name, group[1:6])) + (" .." if len(group) > 6 else "")
-            if len(group) == 1 and (self.steps or len(self.buses) > 1):
-                self.buses[group[0]].mistake("", "no line and no transformer leads to this bus")
-            elif self.steps:
-                self.buses[group[0]].mistake("", f"this bus is not joined to the feeder's bus, nor are those joined to it: {names}")
+        left = [bus for bus in self.by_name.values() if bus not in reached]
+        firsts = {self.together[bus]: bus for bus in reversed(left)}
+        for first in firsts.values():
+            others = [bus for bus in left if bus != first and self.together[bus] == self.together[first]]
+            names = ", ".join(map(self.name, others[:5])) + (" .." if len(others) > 5 else "")
+            if not others and len(self.buses) > 1:
+                self.buses[first].mistake("", "no line and no transformer leads to this bus")
+            elif others and self.steps:
+                self.buses[first].mistake("", f"this bus is not joined to the feeder's bus, nor are those joined to it: {names}")
 
     def check_totals(self):
         if not self.buses:
@@ -156,6 +155,10 @@ class Tree:
         total = sum(entry.numbers.get("count", 1) for entry in self.sources)
         if total > MOST_SOURCES:
             self.sources[-1].mistake("", f"{total} sources in all, each count included; a study has at most {MOST_SOURCES}")
+
+    def check_entries(self):
+        for entry in self.branches + self.sources:
+            self.check_fields(entry)
 
     def check_fields(self, entry):
         """What concerns two numbers, as they are in the record."""
@@ -192,13 +195,14 @@ class Tree:
         entry.mistake(key, f"{key} = {entry.table[key]}: {field.words} must be {limits}, 9/10 to 11/10 of the nominal voltage "
                            f"of {self.name(bus)}, {decimal_text(Fraction(nominal, unit.times))} {unit.text}{exchanged}")
 
-    def check_depth(self, step):
+    def check_depths(self):
         """Said once on each way, at the first bus that is too far."""
-        bus = self.buses[step.bus]
-        if step.branches == MOST_BRANCHES + 1:
-            bus.mistake("", f"too deep: more than {MOST_BRANCHES} branches lead to this bus from the feeder's")
-        if step.transformers == MOST_TRANSFORMERS + 1 and step.branch.kind.table == "transformer":
-            bus.mistake("", f"too deep: more than {MOST_TRANSFORMERS} transformers lead to this bus from the feeder's")
+        for step in self.steps:
+            bus = self.buses[step.bus]
+            if step.branches == MOST_BRANCHES + 1:
+                bus.mistake("", f"too deep: more than {MOST_BRANCHES} branches lead to this bus from the feeder's")
+            if step.transformers == MOST_TRANSFORMERS + 1 and step.branch.kind.table == "transformer":
+                bus.mistake("", f"too deep: more than {MOST_TRANSFORMERS} transformers lead to this bus from the feeder's")
 
     # Rows
 
