@@ -29,7 +29,7 @@ def bus_line(bus, record):
             f"{total_peak:,}", f"{rating:,}", f"{peak_rating:,}", words)
 
 
-def named(lines, names):
+def with_names(lines, names):
     """The lines with the buses' names behind their numbers."""
     return [(line[0], name, *line[1:]) for line, name in zip(lines, names)]
 
@@ -43,9 +43,9 @@ def columns(lines):
 
 
 def table(text, buses, names=()):
-    """The table of an accepted study, from its text and what the program printed for its buses, with their names if there are any."""
+    """The table of an accepted study, from its text, what the program printed for its buses, and their names if they have any."""
     records = [row.decode("ascii").split(",") for row in rows_of(text) if row.startswith(b"B,")]
     if len(records) != len(buses):
         raise Trouble(f"the program gave {len(buses)} rows for {len(records)} buses")
     lines = [HEADINGS] + [bus_line(bus, record) for bus, record in zip(buses, records)]
-    return columns(named(lines, ["name", *names]) if names else lines) + "\n\n" + NOTE
+    return columns(with_names(lines, ["name", *names]) if names else lines) + "\n\n" + NOTE
