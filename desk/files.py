@@ -1,4 +1,4 @@
-"""Reading a study and writing a mended one; every failure is a Trouble with a sentence."""
+"""Reading a study and writing another; every failure is a Trouble with a sentence."""
 import os
 import sys
 
@@ -25,6 +25,13 @@ def read(path):
             return source.read(MOST_READ + 1)
     except (OSError, ValueError) as error:
         raise Trouble(f"{name_of(path)}: {reason(error)}") from None
+
+
+def whole(path, content):
+    """What was read of a file, where that is all of it."""
+    if len(content) > MOST_READ:
+        raise Trouble(f"{name_of(path)} has more than {MOST_READ:,} bytes, as no study has")
+    return content
 
 
 def is_same(source, target):

@@ -1,7 +1,8 @@
 """The one room that knows a study's records: every field's name, unit and range, by row letter and kind, and the limits.
 
-It is data for explaining what the program refused; nothing is refused here. A new kind of source is an entry of SOURCES, a
-wider range or a higher limit a number below. The figures are those of document 01, "The study" and "The file".
+It is data for explaining what the program refused, and for a plan that becomes records (desk/plan); the program alone refuses.
+A new kind of source is an entry of SOURCES, a wider range or a higher limit a number below; desk/plan/fields.py then has the
+plan's keys for it. The figures are those of document 01, "The study" and "The file".
 """
 from typing import NamedTuple
 
@@ -12,6 +13,8 @@ MOST_BUSES = 64
 MOST_SOURCES = 256
 MOST_BRANCHES = 18
 MOST_TRANSFORMERS = 4
+BRANCH_FIELDS = 5  # in a row, those that depend on the kind of its branch
+SOURCE_FIELDS = 5  # the same of a source; the two counts have nothing to do with each other
 TRANSFORMER = 2
 LINE = 1
 FEEDER = 1
@@ -50,6 +53,19 @@ def unused(ground):
     return Field("not used", ground, high=0)
 
 
+def padded(fields, count, ground):
+    """The fields of a kind, and those that it does not use behind them."""
+    return fields + (unused(ground),) * (count - len(fields))
+
+
+def branch_kind(name, *fields, **more):
+    return Kind(name, padded(fields, BRANCH_FIELDS, 5), **more)
+
+
+def source_kind(name, *fields):
+    return Kind(name, padded(fields, SOURCE_FIELDS, 12))
+
+
 def branch(name, unit, low, high):
     return Field(name, 5, unit, low, high)
 
@@ -58,42 +74,45 @@ def given(name, unit, low, high):
     return Field(name, 12, unit, low, high)
 
 
-RATIO = given("R/X", "hundredths", 0, 200)
+RATIO = given("ratio R/X", "hundredths", 0, 200)
 MACHINE_VOLTS = Field("rated voltage", 13, "V", rated_at="bus")
 
 BRANCHES = {
-    0: Kind("bus 0, which has no branch", (unused(5),) * 5),
-    LINE: Kind("line", (
-        branch("r", "micro-ohms per metre", 0, 100_000),
-        branch("x", "micro-ohms per metre", 0, 100_000),
+    0: branch_kind("bus 0, which has no branch"),
+    LINE: branch_kind(
+        "line",
+        branch("resistance r", "micro-ohms per metre", 0, 100_000),
+        branch("reactance x", "micro-ohms per metre", 0, 100_000),
         branch("length", "metres", 1, 200_000),
-        branch("circuits", "", 1, 8),
-        unused(5)), not_both_zero=("r", "x")),
-    TRANSFORMER: Kind("transformer", (
+        branch("number of circuits", "", 1, 8), not_both_zero=("resistance r", "reactance x")),
+    TRANSFORMER: branch_kind(
+        "transformer",
         Field("rated voltage on the parent's side", 7, "V", rated_at="parent"),
         Field("rated voltage on the bus's own side", 7, "V", rated_at="bus"),
         branch("rated power", "kVA", 10, 1_000_000),
-        branch("uk", "thousandths of a percent", 100, 30_000),
-        Field("uR", 5, "thousandths of a percent", below="uk"))),
+        branch("short-circuit voltage uk", "thousandths of a percent", 100, 30_000),
+        Field("resistive part uR", 5, "thousandths of a percent", below="short-circuit voltage uk")),
 }
 
 SOURCES = {
-    FEEDER: Kind("feeder", (given("short-circuit power", "kVA", 1_000, 100_000_000), RATIO) + (unused(12),) * 3),
-    2: Kind("generator", (
+    FEEDER: source_kind("feeder", given("short-circuit power", "kVA", 1_000, 100_000_000), RATIO),
+    2: source_kind(
+        "generator",
         MACHINE_VOLTS,
         given("rated power", "kVA", 10, 1_000_000),
-        given("xd", "thousandths of a percent", 1_000, 100_000),
+        given("subtransient reactance xd", "thousandths of a percent", 1_000, 100_000),
         RATIO,
-        given("power factor", "hundredths", 70, 100))),
-    3: Kind("motor", (
+        given("power factor", "hundredths", 70, 100)),
+    3: source_kind(
+        "motor",
         MACHINE_VOLTS,
         given("rated power", "kVA", 1, 100_000),
         given("starting ratio", "tenths", 10, 100),
-        RATIO,
-        unused(12))),
-    4: Kind("converter", (
+        RATIO),
+    4: source_kind(
+        "converter",
         given("rated current", "tenths of an ampere", 1, 100_000),
-        given("k", "hundredths", 100, 300)) + (unused(12),) * 3),
+        given("current ratio k", "hundredths", 100, 300)),
 }
 
 ROWS = {
@@ -134,6 +153,30 @@ def fields_of(letter, values=()):
     return row.first + (kind.fields if kind else unnamed(row)) + row.last
 
 
+def named(letter, values):
+    """The values of a record by the names of its fields."""
+    return {field.name: value for field, value in zip(fields_of(letter, values), values)}
+
+
+def values_of(letter, kind, by_name):
+    """The values of a record in their order, from those by name; a field that its kind does not use is 0."""
+    row = ROWS[letter]
+    fields = row.first + row.kinds[kind].fields + row.last
+    return [by_name[field.name] if is_used(field) else 0 for field in fields]
+
+
+def is_used(field):
+    return field.high > 0
+
+
+def limits(field, fields):
+    """The least and the greatest value of a field; of one that stays below another of these fields, with that at its greatest."""
+    if not field.below:
+        return field.low, field.high
+    other, = [one for one in fields if one.name == field.below]
+    return field.low, other.high - 1
+
+
 # how many fields a row of each letter has
 COUNTS = {letter: len(fields_of(letter)) for letter in ROWS}
 
@@ -171,8 +214,8 @@ def allowed(field, letter, values):
         return measured_choices(field)
     if field.below:
         limit = values[place_of(letter, values, field.below)]
-        return f"0 to {measured(limit - 1, field.unit)}, less than {field.below}" if limit else f"less than {field.below}"
-    if field.high == 0:
+        return (f"0 to {measured(limit - 1, field.unit)}, " if limit else "") + f"less than the {field.below}"
+    if not is_used(field):
         return "0, since it is not used"
     return f"{field.low:,} to {measured(field.high, field.unit)}" if field.high < LARGEST else ""
 

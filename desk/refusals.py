@@ -2,9 +2,12 @@
 
 Nothing is refused here. Where no reason is found the explanation says so; the program's answer stands all the same.
 """
+import re
+
 from desk import form, grounds
 from desk.mend import mended
-from desk.records import MOST_BYTES, rows_of
+from desk.plan.entries import quoted
+from desk.records import MOST_BYTES, listed, named, rows_of
 from desk.show import picture
 
 GROUNDS = {
@@ -48,8 +51,20 @@ def capital(words):
     return words[:1].upper() + words[1:]
 
 
-def explained(text, number, row):
-    """The explanation of the program's answer `refused,number,row` to a text."""
+def in_plan(text, row, sentences, names):
+    """The names of the buses that a row, or what is said of it, speaks of."""
+    case = grounds.case_of(text, row)
+    if not case or not names:
+        return []
+    record = named(case.record.letter, case.record.values)
+    own = {"B": [len(case.buses), record.get("parent")], "P": [record.get("bus")]}.get(case.record.letter, [])
+    said = [int(number) for number in re.findall(r"\bbus (\d+)", " ".join(sentences))]
+    buses = sorted({bus for bus in own + said if bus < len(names)})
+    return [f"In the plan, {listed(f'bus {bus} is {quoted(names[bus])}' for bus in buses)}."] if buses else []
+
+
+def explained(text, number, row, names=()):
+    """The explanation of the program's answer `refused,number,row` to a text; `names` of the buses, where a plan was its source."""
     found = form.findings(text, row) if number == 16 else grounds.findings(text, number, row)
     rows = rows_of(text)
     content = rows[row - 1] if 0 < row <= len(rows) else b""
@@ -58,5 +73,7 @@ def explained(text, number, row):
     sentences = [capital(one.words) for one in found] or [NO_CAUSE]
     if number == 16:
         sentences += hint(text, row, found)
-    return "\n".join([f"refused: {reason} (ground {number}).", picture(f"row {row}: ", content, marks)]
+    sentences += in_plan(text, row, sentences, names)
+    heading = f"row {row}, made from the plan: " if names else f"row {row}: "
+    return "\n".join([f"refused: {reason} (ground {number}).", picture(heading, content, marks)]
                      + ["  " + sentence for sentence in sentences])

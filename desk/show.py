@@ -1,7 +1,7 @@
 """A row of a file made visible, with marks (^) under the places that a sentence speaks of.
 
-Only printable ASCII comes out, so that the marks stand right and any terminal can show it; other bytes are shown by name or by
-their value, <LF> or <C3>.
+Of a row only printable ASCII comes out, so that the marks stand right and any terminal can show it; other bytes are shown by name
+or by their value, <LF> or <C3>.
 """
 from typing import NamedTuple
 
@@ -25,6 +25,11 @@ def shown(content):
     """Some bytes within a sentence."""
     text = "".join(map(printable, content[:40]))
     return f"`{text}`" if len(content) <= 40 else f"`{text} ..`"
+
+
+def visible(words):
+    """A sentence with something of a file in it, on one line: what cannot be printed comes by its code."""
+    return "".join(c if c.isprintable() else f"<{ord(c):02X}>" for c in words)
 
 
 def stretch(row, first):

@@ -29,16 +29,23 @@ def bus_line(bus, record):
             f"{total_peak:,}", f"{rating:,}", f"{peak_rating:,}", words)
 
 
+def with_names(lines, names):
+    """The lines with the buses' names behind their numbers."""
+    return [(line[0], name, *line[1:]) for line, name in zip(lines, names)]
+
+
 def columns(lines):
-    """Columns under their headings, figures to the right and the verdict's words to the left."""
-    widths = [max(len(line[k]) for line in [HEADINGS] + lines) for k in range(len(HEADINGS) - 1)]
-    return "\n".join("  ".join([f"{line[k]:>{width}}" for k, width in enumerate(widths)] + [line[-1]])
-                     for line in [HEADINGS] + lines)
+    """Columns under their headings, the first line: figures to the right, names and the verdict's words to the left."""
+    widths = [max(map(len, column)) for column in zip(*lines)]
+    sides = ["<" if heading in ("name", "verdict") else ">" for heading in lines[0]]
+    return "\n".join("  ".join(f"{cell:{side}{width}}" for cell, side, width in zip(line, sides, widths)).rstrip()
+                     for line in lines)
 
 
-def table(text, buses):
-    """The table of an accepted study, from its text and what the program printed for its buses."""
+def table(text, buses, names=()):
+    """The table of an accepted study, from its text, what the program printed for its buses, and their names if they have any."""
     records = [row.decode("ascii").split(",") for row in rows_of(text) if row.startswith(b"B,")]
     if len(records) != len(buses):
         raise Trouble(f"the program gave {len(buses)} rows for {len(records)} buses")
-    return columns([bus_line(bus, record) for bus, record in zip(buses, records)]) + "\n\n" + NOTE
+    lines = [HEADINGS] + [bus_line(bus, record) for bus, record in zip(buses, records)]
+    return columns(with_names(lines, ["name", *names]) if names else lines) + "\n\n" + NOTE

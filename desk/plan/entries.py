@@ -180,9 +180,9 @@ class Entry:
 
     def __init__(self, kind, number, table, notes):
         self.kind, self.number, self.table, self.notes = kind, number, table, notes
-        self.given = {}     # the keys of its fields that the entry has, by symbol
+        self.given = {}     # the keys of its fields that the entry has, by the field's name
         self.words = {}     # its name and the names of its buses, by key
-        self.numbers = {}   # by symbol
+        self.numbers = {}   # by the field's name
         self.bus = {}       # the buses that it names, by key, as numbers of the file's order; set by the tree
         self.guessed = False    # one of these names is not known and stands for the nearest
         near = self.read_keys()
@@ -236,10 +236,10 @@ class Entry:
             if len(keys) > 1:
                 self.mistake(keys[1], f"{' and '.join(keys)} both give {field.words}; one of them is enough")
             elif keys:
-                self.given[field.symbol] = keys[0]
+                self.given[field.name] = keys[0]
                 self.read_number(field, keys[0])
             elif field.default is not None:
-                self.numbers[field.symbol] = field.default
+                self.numbers[field.name] = field.default
             elif not proposed & set(field.units):
                 self.mistake("", f"{' or '.join(field.units)} is missing: {field.words}")
 
@@ -255,10 +255,10 @@ class Entry:
             return self.mistake(key, f"{key} = {shown(written)}: {field.words} must be {words}")
         if exact.denominator != 1 and field.whole:
             return self.mistake(key, f"{key} = {shown(written)}: {field.words} must be a whole number")
-        self.numbers[field.symbol] = exact.numerator
+        self.numbers[field.name] = exact.numerator
         if exact.denominator != 1:
-            self.numbers[field.symbol] = int(max(0, exact + Fraction(1, 2)))
-            self.note_rounding(key, value, Fraction(self.numbers[field.symbol], unit.times), unit)
+            self.numbers[field.name] = int(max(0, exact + Fraction(1, 2)))
+            self.note_rounding(key, value, Fraction(self.numbers[field.name], unit.times), unit)
 
     def note_rounding(self, key, value, rounded, unit):
         """Half of the last place goes up. Percent are of the value as it is written."""

@@ -1,16 +1,16 @@
-"""What a plan's entries hold: for each kind its keys, their units and what document 01 allows.
+"""What a plan's entries hold: for each kind its keys and their units.
 
-A kind or a field that is added to the records is one more entry of KINDS; reading, writing and messages follow it.
+What document 01 allows in a field is known by desk/records.py alone; the two are joined by the field's name. A kind or a field
+that is added to the records is one more entry of KINDS here; reading, writing and messages follow it.
 """
 from decimal import Decimal
 from fractions import Fraction
 from typing import NamedTuple
 
+from desk.records import MOST_SOURCES, ROWS, limits
+
 TOLERANCE = "tolerance_percent"
-TOLERANCES = (6, 10)
-MOST_BUSES, MOST_SOURCES = 64, 256
-MOST_BRANCHES, MOST_TRANSFORMERS = 18, 4  # between bus 0 and any bus
-WIDTH = 5  # the fields of a branch or of a source in its row; those that a kind does not use are 0
+TOLERANCES = ROWS["S"].first[0].choices
 
 
 class Unit(NamedTuple):
@@ -19,82 +19,97 @@ class Unit(NamedTuple):
 
 
 class Field(NamedTuple):
-    """A number of an entry. The range is in the record's unit, ends included."""
-    symbol: str
-    words: str
+    """A number of an entry, and how a plan gives it."""
+    name: str               # that of the record's field
     units: dict             # the keys that may give it, each with its unit; the first is the one that is written
-    low: int = 0
-    high: int = 0
+    words: str = ""         # how a message calls it
     default: int = None     # only where leaving it out invents nothing
     whole: bool = False     # counts things, so that rounding it makes no sense
-    stored: bool = True     # is a field of the row
     rated_at: str = ""      # rated volts: the key of the bus to whose nominal volts they belong, in place of a range
     small: str = ""         # the key that is written for less than one of the first key's unit
+    low: int = 0            # these three come from the record, in its unit, ends included
+    high: int = 0
+    below: str = ""         # the name of the field that it has to stay below
 
 
 class Kind(NamedTuple):
-    table: str
+    table: str      # the name of the kind in the records
     group: str      # bus, branch or source
     number: int     # the kind's number in a row
     ends: tuple     # the keys that name a bus
-    fields: tuple   # those that are stored stand in the order of the row
+    fields: tuple
+    not_both_zero: tuple
 
 
-def volts(key, words, rated_at="", low=0, high=0):
-    return Field(key, words, {f"{key}_kV": Unit("kV", 1000), f"{key}_V": Unit("V", 1)}, low, high, rated_at=rated_at)
+def volts(key, name, rated_at="", words=""):
+    return Field(name, {f"{key}_kV": Unit("kV", 1000), f"{key}_V": Unit("V", 1)}, words, rated_at=rated_at)
 
 
-def power(low, high):
-    units = {"rated_MVA": Unit("MVA", 1000), "rated_kVA": Unit("kVA", 1)}
-    return Field("power", "the rated power", units, low, high, small="rated_kVA")
+def plain(key, name, text, times, **more):
+    return Field(name, {key: Unit(text, times)}, **more)
 
 
-def plain(key, words, text, times, low, high, **more):
-    return Field(key, words, {key: Unit(text, times)}, low, high, **more)
+def joined(field, record):
+    """A field of a plan with what the record allows in it; `count` is in no record."""
+    found = [one for one in record if one.name == field.name]
+    low, high = limits(found[0], record) if found else (field.low, field.high)
+    return field._replace(words=field.words or f"the {field.name}", low=low, high=high, below=found[0].below if found else "")
 
 
-RATIO = plain("r_over_x", "R/X", "", 100, 0, 200)
-COUNT = plain("count", "how many there are alike", "", 1, 1, MOST_SOURCES, default=1, whole=True, stored=False)
-LENGTH = Field("length", "the length", {"length_km": Unit("km", 1000), "length_m": Unit("m", 1)}, 1, 200_000)
-REACTANCE = Field("xd", "the subtransient reactance", {"xd_percent": Unit("%", 1000), "xd_pu": Unit("p.u.", 100_000)},
-                  1_000, 100_000)
+ENDS = {"bus": (), "branch": ("from", "to"), "source": ("bus",)}
+
+
+def entry(letter, group, table, *fields):
+    """The entries of a kind, which become a row of this letter or a part of one."""
+    row = ROWS[letter]
+    number = next((number for number, kind in row.kinds.items() if kind.name == table), 0)
+    kind = row.kinds.get(number)
+    record = row.first + kind.fields + row.last
+    return Kind(table, group, number, ENDS[group], tuple(joined(field, record) for field in fields), kind.not_both_zero)
+
+
+MACHINE_VOLTS = volts("rated", "rated voltage", "bus")
+POWER = Field("rated power", {"rated_MVA": Unit("MVA", 1000), "rated_kVA": Unit("kVA", 1)}, small="rated_kVA")
+RATIO = plain("r_over_x", "ratio R/X", "", 100)
+COUNT = plain("count", "count", "", 1, words="how many there are alike", default=1, whole=True, low=1, high=MOST_SOURCES)
 
 KINDS = {kind.table: kind for kind in (
-    Kind("bus", "bus", 0, (), (
-        volts("nominal", "the nominal voltage", low=100, high=420_000),
-        plain("rated_initial_kA", "the rated initial current", "kA", 1000, 1, 1_000_000),
-        plain("rated_peak_kA", "the rated peak current", "kA", 1000, 1, 3_000_000))),
-    Kind("line", "branch", 1, ("from", "to"), (
-        plain("r_ohm_per_km", "the resistance of one circuit", "Ω/km", 1000, 0, 100_000),
-        plain("x_ohm_per_km", "the reactance of one circuit", "Ω/km", 1000, 0, 100_000),
-        LENGTH,
-        plain("circuits", "circuits in parallel", "", 1, 1, 8, default=1, whole=True))),
-    Kind("transformer", "branch", 2, ("from", "to"), (
-        volts("from", "the rated voltage on the side of `from`", rated_at="from"),
-        volts("to", "the rated voltage on the side of `to`", rated_at="to"),
-        power(10, 1_000_000),
-        plain("uk_percent", "the short-circuit voltage", "%", 1000, 100, 30_000),
-        plain("uR_percent", "its resistive part", "%", 1000, 0, 29_999))),
-    Kind("feeder", "source", 1, ("bus",), (
-        plain("short_circuit_MVA", "the short-circuit power", "MVA", 1000, 1_000, 100_000_000),
-        RATIO)),
-    Kind("generator", "source", 2, ("bus",), (
-        volts("rated", "the rated voltage", rated_at="bus"),
-        power(10, 1_000_000),
-        REACTANCE,
-        RATIO,
-        plain("cos_phi", "the rated power factor", "", 100, 70, 100),
-        COUNT)),
-    Kind("motor", "source", 3, ("bus",), (
-        volts("rated", "the rated voltage", rated_at="bus"),
-        power(1, 100_000),
-        plain("starting_ratio", "starting current over rated current", "", 10, 10, 100),
-        RATIO,
-        COUNT)),
-    Kind("converter", "source", 4, ("bus",), (
-        plain("rated_A", "the rated current", "A", 10, 1, 100_000),
-        plain("k", "short-circuit current over rated current", "", 100, 100, 300),
-        COUNT)),
+    entry("B", "bus", "bus",
+          volts("nominal", "nominal voltage"),
+          plain("rated_initial_kA", "rated initial current", "kA", 1000),
+          plain("rated_peak_kA", "rated peak current", "kA", 1000)),
+    entry("B", "branch", "line",
+          plain("r_ohm_per_km", "resistance r", "Ω/km", 1000),
+          plain("x_ohm_per_km", "reactance x", "Ω/km", 1000),
+          Field("length", {"length_km": Unit("km", 1000), "length_m": Unit("m", 1)}),
+          plain("circuits", "number of circuits", "", 1, default=1, whole=True)),
+    entry("B", "branch", "transformer",
+          # a branch may be written from either end, so that a plan has its sides by their keys
+          volts("from", "rated voltage on the parent's side", "from", "the rated voltage on the side of `from`"),
+          volts("to", "rated voltage on the bus's own side", "to", "the rated voltage on the side of `to`"),
+          POWER,
+          plain("uk_percent", "short-circuit voltage uk", "%", 1000),
+          plain("uR_percent", "resistive part uR", "%", 1000)),
+    entry("P", "source", "feeder",
+          plain("short_circuit_MVA", "short-circuit power", "MVA", 1000),
+          RATIO),
+    entry("P", "source", "generator",
+          MACHINE_VOLTS,
+          POWER,
+          Field("subtransient reactance xd", {"xd_percent": Unit("%", 1000), "xd_pu": Unit("p.u.", 100_000)}),
+          RATIO,
+          plain("cos_phi", "power factor", "", 100),
+          COUNT),
+    entry("P", "source", "motor",
+          MACHINE_VOLTS,
+          POWER,
+          plain("starting_ratio", "starting ratio", "", 10),
+          RATIO,
+          COUNT),
+    entry("P", "source", "converter",
+          plain("rated_A", "rated current", "A", 10),
+          plain("k", "current ratio k", "", 100),
+          COUNT),
 )}
 
 

@@ -3,8 +3,10 @@ import heapq
 from fractions import Fraction
 from typing import NamedTuple
 
+from desk.records import MOST_BRANCHES, MOST_BUSES, MOST_SOURCES, MOST_TRANSFORMERS, values_of
+
 from .entries import did_you_mean, proposal, quoted
-from .fields import MOST_BRANCHES, MOST_BUSES, MOST_SOURCES, MOST_TRANSFORMERS, WIDTH, decimal_text, range_text
+from .fields import decimal_text, range_text
 
 
 class Step(NamedTuple):
@@ -162,20 +164,26 @@ class Tree:
 
     def check_fields(self, entry):
         """What concerns two numbers, as they are in the record."""
-        numbers, kind = entry.numbers, entry.kind.table
-        if kind == "line" and numbers.get("r_ohm_per_km") == numbers.get("x_ohm_per_km") == 0:
-            entry.mistake("r_ohm_per_km", "r_ohm_per_km and x_ohm_per_km are both 0")
-        if numbers.get("uR_percent", 0) >= numbers.get("uk_percent", 10**9):
-            written = entry.table["uR_percent"], entry.table["uk_percent"]
-            entry.mistake("uR_percent", f"uR_percent = {written[0]}: the resistive part must be below uk_percent = {written[1]}")
-        if kind == "line" and len(entry.bus) == 2 and not entry.guessed:
+        numbers, pair = entry.numbers, entry.kind.not_both_zero
+        if pair and not any(numbers.get(name, 1) for name in pair):
+            keys = [entry.given[name] for name in pair]
+            entry.mistake(keys[0], f"{' and '.join(keys)} are both 0")
+        for field in entry.kind.fields:
+            if field.below in numbers and field.name in numbers:
+                self.check_below(entry, field)
+            if field.rated_at and field.name in numbers:
+                self.check_rated(entry, field)
+        if entry.kind.table == "line" and len(entry.bus) == 2 and not entry.guessed:
             self.check_line(entry)
-        for field in [field for field in entry.kind.fields if field.rated_at and field.symbol in numbers]:
-            self.check_rated(entry, field)
+
+    def check_below(self, entry, field):
+        if entry.numbers[field.name] >= entry.numbers[field.below]:
+            key, other = entry.given[field.name], entry.given[field.below]
+            entry.mistake(key, f"{key} = {entry.table[key]}: {field.words} must be below {other} = {entry.table[other]}")
 
     def check_line(self, line):
         ends = [line.bus[key] for key in line.kind.ends]
-        nominal = [self.buses[bus].numbers.get("nominal") for bus in ends]
+        nominal = [self.buses[bus].numbers.get("nominal voltage") for bus in ends]
         if None not in nominal and nominal[0] != nominal[1]:
             sides = " and ".join(f"{self.name(bus)} at {decimal_text(Fraction(value, 1000))} kV"
                                  for bus, value in zip(ends, nominal))
@@ -184,13 +192,13 @@ class Tree:
     def check_rated(self, entry, field):
         """Rated volts go with the bus that the entry names for that side, whichever of the two is nearer the feeder."""
         bus = entry.bus.get(field.rated_at)
-        nominal = None if bus is None or entry.guessed else self.buses[bus].numbers.get("nominal")
-        if nominal is None or fits(entry.numbers[field.symbol], nominal):
+        nominal = None if bus is None or entry.guessed else self.buses[bus].numbers.get("nominal voltage")
+        if nominal is None or fits(entry.numbers[field.name], nominal):
             return
-        key = entry.given[field.symbol]
+        key = entry.given[field.name]
         unit = field.units[key]
         limits = range_text(Fraction(9 * nominal, 10), Fraction(11 * nominal, 10), unit)
-        others = [entry.numbers[side] for side in ("from", "to") if side in entry.numbers and side != field.symbol]
+        others = [entry.numbers[side] for side in sides_of(entry) if side in entry.numbers and side != field.name]
         exchanged = "; are the two sides exchanged?" if any(fits(other, nominal) for other in others) else ""
         entry.mistake(key, f"{key} = {entry.table[key]}: {field.words} must be {limits}, 9/10 to 11/10 of the nominal voltage "
                            f"of {self.name(bus)}, {decimal_text(Fraction(nominal, unit.times))} {unit.text}{exchanged}")
@@ -208,29 +216,30 @@ class Tree:
 
     def rows(self, tolerance):
         number = {step.bus: place for place, step in enumerate(self.steps)}
-        rows = [("S", tolerance)] + [self.bus_row(step, number) for step in self.steps]
+        rows = [("S", tolerance)] + [("B", *self.bus_values(step, number)) for step in self.steps]
         for source in self.sources:
-            row = ("P", source.kind.number, number[source.bus["bus"]], *record(source))
-            rows += [row] * source.numbers.get("count", 1)
+            kind = source.kind.number
+            values = {"source kind": kind, "bus": number[source.bus["bus"]], **source.numbers}
+            rows += [("P", *values_of("P", kind, values))] * source.numbers.get("count", 1)
         return rows
 
-    def bus_row(self, step, number):
-        nominal, *ratings = stored(self.buses[step.bus])
-        fields = record(step.branch) if step.branch else [0] * WIDTH
-        if step.branch and step.branch.kind.table == "transformer" and step.branch.bus["from"] != step.parent:
-            fields[:2] = fields[1::-1]  # the parent's side stands first in the row
+    def bus_values(self, step, number):
         kind = step.branch.kind.number if step.branch else 0
-        return ("B", number[step.parent], nominal, kind, *fields, *ratings)
+        branch = seen_from(step.branch, step.parent) if step.branch else {}
+        values = {"parent": number[step.parent], "branch kind": kind, **self.buses[step.bus].numbers, **branch}
+        return values_of("B", kind, values)
 
 
 def fits(rated, nominal):
     return 9 * nominal <= 10 * rated <= 11 * nominal
 
 
-def stored(entry):
-    return [entry.numbers[field.symbol] for field in entry.kind.fields if field.stored]
+def sides_of(entry):
+    return [field.name for field in entry.kind.fields if field.rated_at]
 
 
-def record(entry):
-    fields = stored(entry)
-    return fields + [0] * (WIDTH - len(fields))
+def seen_from(branch, parent):
+    """A branch's numbers by the record's names, in which the first side is the parent's: `from` need not be the parent."""
+    sides = sides_of(branch)
+    turned = sides if branch.bus["from"] == parent else sides[::-1]
+    return {**branch.numbers, **{side: branch.numbers[other] for side, other in zip(sides, turned)}}

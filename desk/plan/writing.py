@@ -1,8 +1,10 @@
 """From rows to a plan: the TOML text of an accepted study, which gives the same rows again."""
 from fractions import Fraction
 
+from desk.records import named
+
 from .entries import Mistakes, quoted
-from .fields import KINDS, TOLERANCE, WIDTH, decimal_text, kinds_of
+from .fields import KINDS, TOLERANCE, decimal_text, kinds_of
 
 HEAD = """\
 # A study of short-circuit levels: {buses}, {sources}.
@@ -29,14 +31,15 @@ def counted(number, one, more):
 
 
 def records_of(data):
-    """The tolerance, the bus records and the source records of a file that the program accepted."""
+    """The tolerance, the bus records and the source records of a file that the program accepted, by the fields' names."""
     try:
         rows = [row.split(",") for row in data.decode("ascii").removesuffix("\r\n").split("\r\n")]
         rows = [(row[0], *map(int, row[1:])) for row in rows]
         (_, tolerance), *rest = rows
     except ValueError:
         raise Mistakes(["these are not the rows of an accepted study"]) from None
-    return tolerance, [row[1:] for row in rest if row[0] == "B"], [row[1:] for row in rest if row[0] == "P"]
+    buses, sources = ([named(letter, row[1:]) for row in rest if row[0] == letter] for letter in "BP")
+    return tolerance, buses, sources
 
 
 # Pairs of a key and its value
@@ -50,22 +53,22 @@ def pair(field, value):
     return key, decimal_text(Fraction(value, field.units[key].times))
 
 
-def pairs(kind, values):
-    return [pair(field, value) for field, value in zip([field for field in kind.fields if field.stored], values)]
+def pairs(kind, record):
+    return [pair(field, record[field.name]) for field in kind.fields if field.name in record]
 
 
 # Buses and branches: a list for each kind, a line for each entry
 
 
 def bus_list(buses, names):
-    lines = [[("name", quoted(name)), *pairs(KINDS["bus"], (bus[1], *bus[-2:]))] for name, bus in zip(names, buses)]
+    lines = [[("name", quoted(name)), *pairs(KINDS["bus"], bus)] for name, bus in zip(names, buses)]
     remarks = [f"bus {number}" + ("" if number else ", the feeder's") for number in range(len(buses))]
     return one_list("bus", lines, remarks)
 
 
 def branch_list(kind, buses, names):
-    chosen = [(number, bus) for number, bus in enumerate(buses) if number and bus[2] == kind.number]
-    lines = [[("from", quoted(names[bus[0]])), ("to", quoted(names[number])), *pairs(kind, bus[3:3 + WIDTH])]
+    chosen = [(number, bus) for number, bus in enumerate(buses) if bus["branch kind"] == kind.number]
+    lines = [[("from", quoted(names[bus["parent"]])), ("to", quoted(names[number])), *pairs(kind, bus)]
              for number, bus in chosen]
     return one_list(kind.table, lines, [f"bus {number}" for number, _ in chosen])
 
@@ -89,15 +92,15 @@ def source_blocks(sources, names):
     blocks, first = [], 0
     for after in range(1, len(sources) + 1):
         if after == len(sources) or sources[after] != sources[first]:
-            blocks.append(source_block(kinds[sources[first][0]], sources[first], names, after - first))
+            blocks.append(source_block(kinds[sources[first]["source kind"]], sources[first], names, after - first))
             first = after
     return blocks
 
 
 def source_block(kind, source, names, alike):
-    lines = [("bus", quoted(names[source[1]])), *pairs(kind, source[2:])]
+    lines = [("bus", quoted(names[source["bus"]])), *pairs(kind, source)]
     if alike > 1:
         lines.append(("count", str(alike)))
     header = "[feeder]" if kind.table == "feeder" else f"[[{kind.table}]]"
     width = max(len(key) for key, _ in lines)
-    return "\n".join([f"{header}  # at bus {source[1]}"] + [f"{key:{width}} = {value}" for key, value in lines] + [""])
+    return "\n".join([f"{header}  # at bus {source['bus']}"] + [f"{key:{width}} = {value}" for key, value in lines] + [""])

@@ -1,0 +1,67 @@
+"""What `board` says of itself."""
+
+USAGE = "usage: board FILE, or board --fix | --toml | --rows IN OUT   (board --help says more)"
+HELP = """\
+name
+    board - short-circuit currents of a study, as a table for people
+
+usage
+    board [--exact] FILE
+    board --fix IN OUT [--force]
+    board --toml IN [OUT] [--force]
+    board --rows [--exact] IN [OUT] [--force]
+    board --help | --version
+
+what it prints
+    FILE is a study: as rows S, B and P, or as a plan, a TOML file with named buses and the units of data sheets.
+    README.md has both. A file is a plan where its name ends in .toml. `-` is standard input; it is a plan where its
+    first line, blank lines and remarks apart, begins with a bracket or has an equals sign before any comma.
+
+    The table has a row for each bus: bounds of the machines' and of the converters' initial current, the peak of both
+    together, the two ratings and the verdict, all in amperes; of a plan also the bus's name. The figures come from the
+    proved program target/bin/noldveig; where it is not there yet, it is proved and built first by
+    `rt check noldveig`, which takes some minutes.
+
+    A study that is refused is answered with the number of the ground, the row with a mark (^) under the place, and what
+    is wrong there. Rows count from 1, fields from 1 behind the row's letter. What a row cannot show is written as a
+    name or a value, such as <LF>, <TAB> or <C3>.
+
+    The mistakes of a plan are listed, each with its line. A number of a plan that is no whole number of the row's units
+    (a length of 2.40045 km, where a row has metres) is rounded to the nearest; below the table stands each such place
+    with the difference.
+
+options
+    --exact
+        Nothing is rounded: a plan in which something would have to be is refused, with the places.
+    --fix IN OUT
+        Mends how rows are put down and writes the result to OUT; IN stays as it is. Mended is what is certain: line
+        ends become CRLF; a byte order mark goes; UTF-16 becomes plain text; blank rows at the end go; semicolons become
+        commas where the file has no comma, and tabs where it has neither; blanks around fields go; separators behind the
+        last field go, and a small row letter becomes a capital, where the row then has its number of fields. No number is
+        changed. It says what was changed, and whether the program accepts the result; OUT is written either way.
+    --toml IN [OUT]
+        Writes rows that the program accepts as a plan, in which the buses are called bus 0, bus 1 and so on. Without OUT,
+        or with `-`, it goes to standard output.
+    --rows IN [OUT]
+        Writes a plan as rows, with CRLF, in the same way. Only rows that the program accepts are written.
+        With --toml and --rows, roundings and refusals go to standard error.
+    --force
+        With --fix, --toml and --rows: OUT is overwritten where it is there already. IN is never changed.
+    --help, --version
+        This text; the name and the revision.
+    --
+        What follows is a name, even where it begins with a dash.
+
+exit status
+    0   the study was accepted; with --fix, the result was
+    1   it was refused, or the plan has mistakes
+    2   the command could not be carried out; a sentence on standard error says why
+
+examples
+    ./board examples/town.csv
+    ./board examples/town.toml
+    ./board - < examples/substation.csv
+    ./board --toml examples/town.csv plan.toml && ./board --exact plan.toml
+    ./board --rows examples/from-data-sheets.toml | ./board -
+    tr -d '\\r' < examples/town.csv > unix.csv; ./board --fix unix.csv mended.csv && ./board mended.csv
+"""

@@ -1,0 +1,102 @@
+"""A study as it is given, in rows or as a plan, and what `board FILE` says of it."""
+import re
+import sys
+from typing import NamedTuple
+
+from desk import files
+from desk.plan import Mistakes, rows_of_plan
+from desk.program import Refusal, answer
+from desk.refusals import explained
+from desk.show import visible
+from desk.streams import Answer, fitted
+from desk.table import table
+from desk.texts import MARK, wide
+
+IN_ROWS = re.compile(r"[Ss]\s*[,;\t]\s*\d")
+A_PLAN = "It looks like a plan, and was taken for rows: the name of a plan ends in .toml, and --toml and --fix are for rows."
+
+
+class Study(NamedTuple):
+    rows: bytes
+    names: tuple = ()       # of the buses, where it was a plan
+    roundings: tuple = ()   # each in words with its place in the plan
+
+
+# ---- which of the two it is
+
+def first_line(data):
+    """The first line that is neither blank nor a remark, in whatever encoding."""
+    found = wide(data)
+    text = data[len(found.mark):].decode(found.codec, "replace") if found else data.removeprefix(MARK).decode("latin-1")
+    lines = (line.strip() for line in text.splitlines())
+    return next((line for line in lines if line and not line.startswith("#")), "")
+
+
+def looks_like_plan(data):
+    """A bracket, or an equals sign before any comma: no row of a study has either."""
+    return re.match(r"\[|[^,;]*=", first_line(data)) is not None
+
+
+def is_plan(path, data):
+    return looks_like_plan(data) if path == "-" else path.lower().endswith(".toml")
+
+
+# ---- from a plan
+
+def text_of(data):
+    found = wide(data)
+    if found:
+        raise Mistakes([f"the whole file is in {found.codec[:6].upper()}; a plan is saved as UTF-8"])
+    try:
+        return data.decode("utf-8")
+    except UnicodeDecodeError as error:
+        line = data.count(b"\n", 0, error.start) + 1
+        raise Mistakes([f"line {line}: the byte {data[error.start]:02X} is not UTF-8; a plan is saved as UTF-8"]) from None
+
+
+def from_plan(data, exact):
+    """The study of a plan; raises Mistakes."""
+    if IN_ROWS.match(first_line(data)):
+        raise Mistakes(["it looks like the rows of a study, not like a plan; names that end in .toml, and --rows, are for plans"])
+    converted = rows_of_plan(text_of(data), exact)
+    return Study(converted.rows, tuple(converted.names), tuple(converted.roundings))
+
+
+def mistaken(found):
+    """All mistakes of a plan, as they are listed."""
+    count = len(found.mistakes)
+    head = f"refused: the plan has {count} {'mistake' if count == 1 else 'mistakes'}."
+    return "\n".join([head] + ["  " + visible(one) for one in found.mistakes])
+
+
+def rounded(study):
+    """What was rounded; nothing where every number is exact."""
+    return "\n".join(["Rounded:"] + ["  " + visible(one) for one in study.roundings]) if study.roundings else ""
+
+
+# ---- what is said
+
+def refused(study, got):
+    """The explanation of a refusal. What is wrong with a plan as rows helps nobody, so that only its first line is said."""
+    said = explained(study.rows, *got, study.names)
+    return said.split("\n")[0] + f"\n  {A_PLAN}" if got.number == 16 and looks_like_plan(study.rows) else said
+
+
+def judged(study):
+    """The program's answer to a study, for people."""
+    got = answer(study.rows)
+    if isinstance(got, Refusal):
+        return Answer(1, refused(study, got))
+    names = [fitted(name, sys.stdout) for name in study.names]  # before the columns are measured
+    return Answer(0, "\n\n".join(filter(None, [table(study.rows, got, names), rounded(study)])))
+
+
+def shown(path, exact=False):
+    """`board FILE`."""
+    data = files.read(path)
+    if not is_plan(path, data):
+        return judged(Study(data))
+    try:
+        return judged(from_plan(files.whole(path, data), exact))
+    except Mistakes as found:
+        return Answer(1, mistaken(found))
