@@ -6,6 +6,7 @@ in a planner's drawing; so nothing is pushed to the right more than log2 of the 
 leave a bus, they stand in columns, and the bar runs along the top of these and down beside each. How wide the columns may
 get in all is tried out: the drawing is made that can be printed largest on one upright sheet of A4.
 """
+from math import inf
 from typing import NamedTuple
 
 from . import lettering
@@ -20,13 +21,15 @@ SYMBOL = 20  # sides of a source's symbol
 STUB = 12  # wire between a bar and a source's symbol
 SOURCE_ROW = 24
 GAP, COLUMN_GAP = 7, 22  # between branches below each other, and between columns
+AFTER = 6  # more space below a bus with others behind it
 DROP = {Line: 24, Transformer: 42}  # length of a branch that goes straight down
 TRANSFORMER = (28, 18)  # two circles, along the wire and across
 PAD = 4  # around the text of a label
 BADGE = 18
 MARGIN = 24  # around the drawing
 SHEET = (718, 1047)  # A4 with margins of 10 mm, in px
-WIDEST = 3000
+FIRST_WIDTH, WIDEST = 300, 4000
+WIDTH_STEP = 60
 NAME_ROOM, SOURCE_ROOM = 170, 220
 SIZES = {"name": 12, "plain": 11, "small": 10}
 PITCH = {"name": 14, "plain": 13, "small": 12.5}
@@ -123,53 +126,62 @@ def head_of(bus):
 
 # ---- blocks
 
-def split(blocks, first_top, other_top, limit):
-    """The blocks in columns of at most that depth, filled in order; the first column begins lower than the others."""
-    columns, depth = [[]], first_top
-    for block in blocks:
-        if columns[-1] and depth + block.height > limit:
-            columns.append([])
+def split(heights, first_top, other_top, limit):
+    """How many blocks go into each column of at most that depth, in order; the first column begins lower than the others."""
+    counts, depth = [0], first_top
+    for height in heights:
+        if counts[-1] and depth + height > limit:
+            counts.append(0)
             depth = other_top
-        columns[-1].append(block)
-        depth += block.height + GAP
-    return columns
-
-
-def depth_of(column, top):
-    return top + sum(block.height + GAP for block in column)
+        counts[-1] += 1
+        depth += height + GAP
+    return counts
 
 
 def even_columns(blocks, count, first_top, other_top):
-    """At most that many columns, as short as can be with the blocks in order."""
-    low, high = 0.0, depth_of(blocks, first_top)
-    while high - low > 4:
+    """The blocks in at most that many columns, as short as can be in this order."""
+    heights = [block.height for block in blocks]
+    low, high = max(heights, default=0), first_top + sum(heights) + GAP * len(heights)
+    while count > 1 and high - low > 4:
         middle = (low + high) / 2
-        if len(split(blocks, first_top, other_top, middle)) <= count:
+        if len(split(heights, first_top, other_top, middle)) <= count:
             high = middle
         else:
             low = middle
-    return split(blocks, first_top, other_top, high)
+    counts = split(heights, first_top, other_top, high)
+    return [blocks[sum(counts[:k]):sum(counts[:k + 1])] for k in range(len(counts))]
 
 
 def column_lefts(head, columns):
-    widths = [STEP + max((block.width for block in column), default=0) for column in columns]
-    widths[0] = max(widths[0] if columns[0] else 0, head.width)
+    """Where the columns begin, and where one more would."""
+    widths = [STEP + max((block.width for block in column), default=-STEP) for column in columns]
+    widths[0] = max(widths[0], head.width)
     return [sum(widths[:k]) + k * COLUMN_GAP for k in range(len(columns) + 1)]
 
 
-def block_of(head, from_above, sides, count, trunk):
-    """The block of a bus with its side branches in at most that many columns."""
-    label_top = BAR + 3 if from_above or count > 1 else 1
-    below_head = label_top + head.label_height + SOURCE_ROW * len(head.groups)
-    columns = even_columns(sides, count, below_head + GAP, BAR + GAP)
+def head_depth(head, label_top):
+    return label_top + head.label_height + SOURCE_ROW * len(head.groups)
+
+
+def label_top_of(from_above, columns):
+    return BAR + 3 if from_above or columns > 1 else 1
+
+
+def block_of(head, from_above, columns, trunk):
+    """The block of a bus with these columns of side branches and with a branch straight down, if there is one."""
+    label_top = label_top_of(from_above, len(columns))
+    below_head = head_depth(head, label_top)
     tops = [below_head + GAP] + [BAR + GAP] * (len(columns) - 1)
-    bottom = max([below_head] + [depth_of(column, top) - GAP for column, top in zip(columns, tops) if column])
-    lefts = column_lefts(head, columns)
-    width = lefts.pop() - COLUMN_GAP
-    if trunk is None:
-        return Block(head, from_above, columns, lefts, None, label_top, width, bottom, bottom)
-    above = bottom + DROP[type(trunk.head.bus.branch)]
-    return Block(head, from_above, columns, lefts, trunk, label_top, max(width, trunk.width), above + trunk.height, above)
+    depths = [top + sum(block.height + GAP for block in column) - GAP for column, top in zip(columns, tops) if column]
+    bottom = max([below_head] + depths)
+    *lefts, end = column_lefts(head, columns)
+    width, height, trunk_top = end - COLUMN_GAP, bottom, bottom
+    if trunk:
+        trunk_top = bottom + DROP[type(trunk.head.bus.branch)]
+        width, height = max(width, trunk.width), trunk_top + trunk.height
+    elif columns[0]:
+        height += AFTER
+    return Block(head, from_above, columns, lefts, trunk, label_top, width, height, trunk_top)
 
 
 class Arranger:
@@ -179,26 +191,58 @@ class Arranger:
         self.heads = {bus.number: head_of(bus) for bus in buses}
         self.children, self.sizes = tree_of(buses)
         self.found = {}
+        self.least, self.most = {}, {}
+        for bus in sorted(buses, key=lambda bus: -bus.number):
+            self.note_widths(bus.number, [child.number for child in self.children[bus.number]])
+
+    def note_widths(self, number, behind):
+        """Below the least width all behind a bus stands in one column each; beyond the most, more width is of no use."""
+        own = self.heads[number].width
+        beside = min((self.heads[child].width for child in behind), default=0) + own + COLUMN_GAP + STEP
+        self.least[number] = min([self.least[child] for child in behind] + [beside if len(behind) > 1 else inf])
+        self.most[number] = own + sum(STEP + COLUMN_GAP + self.most[child] for child in behind)
 
     def block(self, number, width, from_above):
-        key = (number, round(width), from_above)
+        """Widths are taken in steps, so that few arrangements are tried."""
+        if width < self.least[number]:
+            width = 0
+        width = self.most[number] if width >= self.most[number] else width // WIDTH_STEP * WIDTH_STEP
+        key = (number, width, from_above)
         if key not in self.found:
             self.found[key] = self.lowest(number, width, from_above)
         return self.found[key]
 
-    def lowest(self, number, width, from_above):
-        children = self.children[number]
+    def columns(self, number, sides, count, width, from_above):
+        """Side branches in at most that many columns of equal width."""
+        room = (width - (count - 1) * COLUMN_GAP) / count - STEP
+        blocks = [self.block(side, room, False) for side in sides]
+        first_top = head_depth(self.heads[number], label_top_of(from_above, count)) + GAP
+        return even_columns(blocks, count, first_top, BAR + GAP)
+
+    def arrangements(self, number, width, from_above):
+        """The ways to arrange what is behind a bus, those of few columns first."""
+        head, children = self.heads[number], self.children[number]
         straight = trunk_of(children, self.sizes)
-        trunk = straight and self.block(straight.number, width, True)
         sides = [child.number for child in children if child is not straight]
-        best = None
+        trunk = straight and self.block(straight.number, width, True)
         for count in range(1, max(1, len(sides)) + 1):
-            room = (width - (count - 1) * COLUMN_GAP) / count - STEP
-            block = block_of(self.heads[number], from_above, [self.block(side, room, False) for side in sides], count, trunk)
-            if best and block.width > width:
-                break
-            if best is None or block.height < best.height - GAP:
+            yield block_of(head, from_above, self.columns(number, sides, count, width, from_above), trunk)
+            if straight and sides:
+                # what would go straight down stands beside the others, in what width they leave
+                share = (width - COLUMN_GAP) * count / (count + 1)
+                columns = self.columns(number, sides, count, share, from_above)
+                room = width - column_lefts(head, columns)[-1] - STEP
+                yield block_of(head, from_above, columns + [[self.block(straight.number, room, False)]], None)
+
+    def lowest(self, number, width, from_above):
+        best = None
+        wide = 0
+        for block in self.arrangements(number, width, from_above):
+            wide += block.width > width
+            if best is None or (block.width <= width and block.height < best.height - GAP):
                 best = block
+            if wide > 2:
+                break  # more columns only get wider
         return best
 
 
@@ -209,9 +253,10 @@ def print_scale(block):
 def best_block(buses):
     """The arrangement that prints largest on a sheet; of equal ones the narrowest."""
     arranger = Arranger(buses)
-    best, width = arranger.block(0, 0, True), 300
-    while width < WIDEST and print_scale(best) < 1:
+    best = block = arranger.block(0, 0, True)
+    width = FIRST_WIDTH
+    while print_scale(best) < 1 and print_scale(best) <= SHEET[0] / (block.width + 2 * MARGIN) and width < WIDEST:
         block = arranger.block(0, width, True)
         best = max(best, block, key=print_scale)
-        width *= 1.06
+        width *= 1.12
     return best
