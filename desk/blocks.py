@@ -10,7 +10,7 @@ from math import inf
 from typing import NamedTuple
 
 from . import lettering
-from .oneline import FEEDER, Bus, Group, Line, Transformer, branch_words, groups, kilovolts
+from .oneline import FEEDER, Bus, Group, Transformer, branch_words, groups, kilovolts
 
 BAR = 6  # thickness of a busbar
 CAP = 15  # half of the crossbar of a bus that is entered from above
@@ -22,7 +22,7 @@ STUB = 12  # wire between a bar and a source's symbol
 SOURCE_ROW = 24
 GAP, COLUMN_GAP = 7, 22  # between branches below each other, and between columns
 AFTER = 6  # more space below a bus with others behind it
-DROP = {Line: 24, Transformer: 42}  # length of a branch that goes straight down
+DROP, TRANSFORMER_DROP = 24, 42  # length of a branch that goes straight down
 TRANSFORMER = (28, 18)  # two circles, along the wire and across
 PAD = 4  # around the text of a label
 BADGE = 18
@@ -82,6 +82,8 @@ def tree_of(buses):
     """The buses behind each, and how many there are behind and with each."""
     children = {bus.number: [] for bus in buses}
     sizes = {bus.number: 1 for bus in buses}
+    if len(children) != len(buses) or 0 not in children:
+        raise ValueError("there is no bus 0, or two buses have one number")
     for bus in sorted(buses, key=lambda bus: -bus.number):
         if bus.number:
             if not (0 <= bus.parent < bus.number and bus.parent in children):
@@ -177,7 +179,7 @@ def block_of(head, from_above, columns, trunk):
     *lefts, end = column_lefts(head, columns)
     width, height, trunk_top = end - COLUMN_GAP, bottom, bottom
     if trunk:
-        trunk_top = bottom + DROP[type(trunk.head.bus.branch)]
+        trunk_top = bottom + (TRANSFORMER_DROP if isinstance(trunk.head.bus.branch, Transformer) else DROP)
         width, height = max(width, trunk.width), trunk_top + trunk.height
     elif columns[0]:
         height += AFTER

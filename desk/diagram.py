@@ -210,7 +210,7 @@ def tooltip(text):
 
 
 def bus_tooltip(bus):
-    name = f"Bus {bus.number} {bus.name}".strip()
+    name = f"Bus {bus.number} {lettering.clean(bus.name)}".strip()
     told = [f"{name}, {kilovolts(bus.volts)}", branch_words(bus.branch), bus.words, bus.details]
     return tooltip("\n".join(text for text in told if text))
 
@@ -223,9 +223,8 @@ def bus_group(bus, items):
     return mark("g", bus_tooltip(bus) + "\n" + items_of(items, COLOURS[bus.verdict]) + "\n", data_bus=bus.number)
 
 
-def svg(buses, title="One-line diagram", note=""):
-    """The drawing of a study, in its natural size; ValueError where the buses are no tree from bus 0."""
-    drawing = layout(buses, title, note)
+def drawn(drawing, buses, title):
+    """A drawing whose places are given, as SVG in its natural size."""
     owned = {bus.number: [] for bus in buses}
     for item in drawing.items:
         owned.setdefault(item.bus, []).append(item)
@@ -236,3 +235,8 @@ def svg(buses, title="One-line diagram", note=""):
     parts += [bus_group(bus, owned[bus.number]) for bus in sorted(buses, key=lambda bus: bus.number)]
     return mark("svg", "\n" + "\n".join(parts) + "\n", xmlns="http://www.w3.org/2000/svg", role="img", width=drawing.width,
                 height=drawing.height, viewBox=f"0 0 {number(drawing.width)} {number(drawing.height)}", font_family=FONTS) + "\n"
+
+
+def svg(buses, title="One-line diagram", note=""):
+    """The one-line diagram of a study; ValueError where the buses are no tree from bus 0."""
+    return drawn(layout(buses, title, note), buses, title)

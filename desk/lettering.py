@@ -8,12 +8,12 @@ import unicodedata
 CLASSES = (
     (0.35, " ',./:;I\\ijl|·"),
     (0.43, "!()-[]frt"),
-    (0.52, "\"*J`sz"),
+    (0.53, "\"*J`sz"),
     (0.60, "?L_ckvxy"),
     (0.65, "FTaoebdghnpqu$0123456789{}"),
-    (0.73, "EKPSYAVBXZCRU"),
-    (0.80, "HNDG&OQ"),
-    (0.86, "w#+<=>^~M×"),
+    (0.73, "EKPSYAVBXZCR"),
+    (0.80, "HNDGU&OQ"),
+    (0.87, "w#+<=>^~M×"),
     (1.02, "%mW@…"),
 )
 WIDTHS = {letter: width for width, letters in CLASSES for letter in letters}
