@@ -10,7 +10,7 @@ from math import inf
 from typing import NamedTuple
 
 from . import lettering
-from .oneline import FEEDER, Bus, Group, Transformer, branch_words, groups, kilovolts
+from .oneline import FEEDER, Bus, Group, Line, Transformer, branch_words, groups, kilovolts
 
 BAR = 6  # thickness of a busbar
 CAP = 15  # half of the crossbar of a bus that is entered from above
@@ -22,7 +22,7 @@ STUB = 12  # wire between a bar and a source's symbol
 SOURCE_ROW = 24
 GAP, COLUMN_GAP = 7, 22  # between branches below each other, and between columns
 AFTER = 6  # more space below a bus with others behind it
-DROP, TRANSFORMER_DROP = 24, 42  # length of a branch that goes straight down
+DROP, MARKED_DROP, TRANSFORMER_DROP = 16, 24, 42  # length of a branch straight down: plain, with a number of circuits, ..
 TRANSFORMER = (28, 18)  # two circles, along the wire and across
 PAD = 4  # around the text of a label
 BADGE = 18
@@ -169,6 +169,12 @@ def label_top_of(from_above, columns):
     return BAR + 3 if from_above or columns > 1 else 1
 
 
+def drop(branch):
+    if isinstance(branch, Transformer):
+        return TRANSFORMER_DROP
+    return MARKED_DROP if isinstance(branch, Line) and branch.circuits > 1 else DROP
+
+
 def block_of(head, from_above, columns, trunk):
     """The block of a bus with these columns of side branches and with a branch straight down, if there is one."""
     label_top = label_top_of(from_above, len(columns))
@@ -179,7 +185,7 @@ def block_of(head, from_above, columns, trunk):
     *lefts, end = column_lefts(head, columns)
     width, height, trunk_top = end - COLUMN_GAP, bottom, bottom
     if trunk:
-        trunk_top = bottom + (TRANSFORMER_DROP if isinstance(trunk.head.bus.branch, Transformer) else DROP)
+        trunk_top = bottom + drop(trunk.head.bus.branch)
         width, height = max(width, trunk.width), trunk_top + trunk.height
     elif columns[0]:
         height += AFTER
@@ -260,5 +266,5 @@ def best_block(buses):
     while print_scale(best) < 1 and print_scale(best) <= SHEET[0] / (block.width + 2 * MARGIN) and width < WIDEST:
         block = arranger.block(0, width, True)
         best = max(best, block, key=print_scale)
-        width *= 1.12
+        width *= 1.08
     return best

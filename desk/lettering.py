@@ -4,6 +4,8 @@ The widths are those of DejaVu Sans, the widest of the usual sans-serif fonts, e
 Arial and Helvetica are about a sixth narrower, so a label that fits by this reckoning fits wherever it is opened.
 """
 import unicodedata
+from bisect import bisect_right
+from itertools import accumulate
 
 CLASSES = (
     (0.35, " ',./:;I\\ijl|·"),
@@ -20,6 +22,7 @@ WIDTHS = {letter: width for width, letters in CLASSES for letter in letters}
 BOLD = 1.16
 ACCENT = 0.13  # most accents widen nothing; a horn or a caron beside its letter does
 SMALL_LETTER, SQUARE_LETTER, ANY_LETTER = 1.16, 1.05, 1.45  # of other alphabets; Chinese and the like; all else
+FAR = 400  # no line has room for more characters than this
 UNSHOWN = ("Cc", "Cf", "Cs", "Co", "Cn", "Zl", "Zp")  # control and direction marks, half characters, no characters
 
 
@@ -43,17 +46,15 @@ def width(text, size, bold=False):
 
 def clean(text):
     """One line without what XML forbids or what would turn the text around: such characters become a question mark."""
-    return " ".join("".join("?" if unicodedata.category(letter) in UNSHOWN and not letter.isspace() else letter
-                            for letter in text).split())
+    if not text.isprintable():
+        text = "".join("?" if unicodedata.category(letter) in UNSHOWN and not letter.isspace() else letter for letter in text)
+    return " ".join(text.split())
 
 
 def fitted(text, size, bold, room):
     """The text, or as much of its start as there is room for, with dots."""
-    if width(text, size, bold) <= room:
+    widths = list(accumulate(letter_width(letter) * size * (BOLD if bold else 1) for letter in text[:FAR]))
+    if len(text) <= FAR and (not widths or widths[-1] <= room):
         return text
-    left = room - width("…", size, bold)
-    kept = 0
-    while kept < len(text) and left >= letter_width(text[kept]) * size * (BOLD if bold else 1):
-        left -= letter_width(text[kept]) * size * (BOLD if bold else 1)
-        kept += 1
+    kept = bisect_right(widths, room - width("…", size, bold))
     return text[:kept].rstrip() + "…"
