@@ -21,7 +21,7 @@ SYMBOL = 20  # sides of a source's symbol
 STUB = 12  # wire between a bar and a source's symbol
 SOURCE_ROW = 24
 GAP, COLUMN_GAP = 7, 22  # between branches below each other, and between columns
-AFTER = 6  # more space below a bus with others behind it
+AFTER = 8  # more space below a side branch with several buses
 DROP, MARKED_DROP, TRANSFORMER_DROP = 16, 24, 42  # length of a branch straight down: plain, with a number of circuits, ..
 TRANSFORMER = (28, 18)  # two circles, along the wire and across
 PAD = 4  # around the text of a label
@@ -187,7 +187,7 @@ def block_of(head, from_above, columns, trunk):
     if trunk:
         trunk_top = bottom + drop(trunk.head.bus.branch)
         width, height = max(width, trunk.width), trunk_top + trunk.height
-    elif columns[0]:
+    if not from_above and (trunk or columns[0]):
         height += AFTER
     return Block(head, from_above, columns, lefts, trunk, label_top, width, height, trunk_top)
 

@@ -151,8 +151,8 @@ def label(head, box):
         drawn.append(mark("rect", x=edge.left, y=edge.top, width=edge.right - edge.left, height=edge.bottom - edge.top, rx=3,
                           fill=TINTS[verdict], stroke=COLOURS[verdict], stroke_width=1.2, **dashes))
     if verdict:
-        drawn.append(badge(verdict, box.left + PAD + BADGE / 2, box.top + PAD - 1 + BADGE / 2))
-    x, y = box.left + PAD + (BADGE + PAD if verdict else 0), box.top + PAD - 2
+        drawn.append(badge(verdict, box.left + PAD + BADGE / 2, box.top + PAD - 2 + BADGE / 2))
+    x, y = box.left + PAD + (BADGE + PAD if verdict else 0), box.top + PAD - 3.5
     for runs in head.lines:
         y += PITCH[runs[0].style]
         drawn.append(text_line(runs, x, y - 1.5, colours))
@@ -233,8 +233,9 @@ def drawn(drawing, buses, title):
              mark("rect", width=drawing.width, height=drawing.height, fill=PAPER),
              items_of(owned.get(None, []), INK)]
     parts += [bus_group(bus, owned[bus.number]) for bus in sorted(buses, key=lambda bus: bus.number)]
-    return mark("svg", "\n" + "\n".join(parts) + "\n", xmlns="http://www.w3.org/2000/svg", role="img", width=drawing.width,
-                height=drawing.height, viewBox=f"0 0 {number(drawing.width)} {number(drawing.height)}", font_family=FONTS) + "\n"
+    wide, tall = number(drawing.width), number(drawing.height)
+    return mark("svg", "\n" + "\n".join(parts) + "\n", xmlns="http://www.w3.org/2000/svg", role="img", width=wide, height=tall,
+                viewBox=f"0 0 {wide} {tall}", font_family=FONTS) + "\n"
 
 
 def svg(buses, title="One-line diagram", note=""):

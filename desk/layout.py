@@ -63,7 +63,8 @@ def branch_across(bus, left, right, y):
     yield across("wire", bus.number, left, right, y)
     if isinstance(bus.branch, Line) and bus.branch.circuits > 1:
         long, tall = CIRCUITS
-        yield Item("circuits", bus.number, Box(middle - 6, y - tall + 6, middle - 6 + long, y + 6), ("across", bus.branch.circuits))
+        box = Box(middle - 6, y - tall + 6, middle - 6 + long, y + 6)
+        yield Item("circuits", bus.number, box, ("across", bus.branch.circuits))
 
 
 def branch_down(bus, x, top, bottom):

@@ -40,13 +40,19 @@ def may_meet(a, b, parents):
     return parents.get(wire.bus) == bar.bus
 
 
-def overlaps(drawing, buses):
-    """Pairs of things that overlap. Only those in the same band of the drawing are compared."""
-    parents = {bus.number: bus.parent for bus in buses if bus.number}
+def bands_of(items):
+    """The things by bands of the drawing, so that only those of one band have to be compared; tall ones are in several."""
     bands = {}
-    for item in drawing.items:
-        for band in range(int(item.box.top // 50), int(item.box.bottom // 50) + 1):
-            bands.setdefault(band, []).append(item)
+    ends = ((item, range(int(item.box.top // 50), int(item.box.bottom // 50) + 1)) for item in items)
+    for item, band in ((item, band) for item, reach in ends for band in reach):
+        bands.setdefault(band, []).append(item)
+    return bands
+
+
+def overlaps(drawing, buses):
+    """Pairs of things that overlap and may not."""
+    parents = {bus.number: bus.parent for bus in buses if bus.number}
+    bands = bands_of(drawing.items)
     pairs = ((a, b) for band in bands.values() for place, a in enumerate(band) for b in band[:place]
              if a.box.left < b.box.right and b.box.left < a.box.right and meet(a.box, b.box))
     return [f"{a.kind} of {a.bus} on {b.kind} of {b.bus}" for a, b in pairs if not may_meet(a, b, parents)]
@@ -109,7 +115,8 @@ def shape_box(element):
 def groups_of(root):
     """The groups of items, with the bus that each stands under."""
     own = [(None, group) for group in root.findall(f"{SVG}g[@data-item]")]
-    return own + [(int(bus.get("data-bus")), group) for bus in root.findall(f"{SVG}g[@data-bus]") for group in bus.findall(f"{SVG}g")]
+    buses = root.findall(f"{SVG}g[@data-bus]")
+    return own + [(int(bus.get("data-bus")), group) for bus in buses for group in bus.findall(f"{SVG}g")]
 
 
 def drawn_items(root):
