@@ -263,7 +263,8 @@ def text_faults(root, buses):
     groups = {int(group.get("data-bus")): group for group in root.findall(f"{SVG}g[@data-bus]")}
     if sorted(groups) != [bus.number for bus in buses] or len(root.findall(f"{SVG}g[@data-bus]")) != len(buses):
         return ["not every bus has one group"]
-    faults = [fault for bus in buses for fault in label_faults(bus, groups[bus.number]) + source_faults(bus, groups[bus.number])]
+    own = [(bus, groups[bus.number]) for bus in buses]
+    faults = [fault for bus, group in own for fault in label_faults(bus, group) + source_faults(bus, group)]
     small = [element for element in root.iter() if float(element.get("font-size", LEAST_TEXT)) < LEAST_TEXT]
     return faults + ["text that is too small" for _ in small[:1]]
 
@@ -276,7 +277,8 @@ def page_faults(root, drawing):
         faults.append(f"viewBox {box}")
     known = {"svg", "title", "desc", "g", "rect", "line", "circle", "polygon", "path", "text", "tspan"}
     strange = {element.tag for element in root.iter()} - {SVG + name for name in known}
-    named = [name for element in root.iter() for name in element.attrib if name in ("id", "class", "style") or name.startswith("on")]
+    names = {name for element in root.iter() for name in element.attrib}
+    named = [name for name in names if name in ("id", "class", "style") or name.startswith("on")]
     loads = [name for element in root.iter() for name in element.attrib if "href" in name or "url(" in element.get(name)]
     return faults + [f"strange: {bad}" for bad in (strange, named, loads) if bad]
 
