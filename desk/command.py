@@ -2,6 +2,7 @@
 import os
 import subprocess
 
+from desk.drawing import as_diagram
 from desk.help import HELP, USAGE
 from desk.program import ROOT
 from desk.rewriting import as_plan, as_rows, fixed
@@ -15,6 +16,7 @@ FORMS = {
     "--fix": ({"--force"}, (2,)),
     "--toml": ({"--force"}, (1, 2)),
     "--rows": ({"--force", "--exact"}, (1, 2)),
+    "--svg": ({"--force", "--exact"}, (1, 2)),
     "--help": (set(), (0,)),
     "--version": (set(), (0,)),
 }
@@ -58,7 +60,9 @@ def carried_out(words):
     source, target = (names + ["-"])[:2]
     if form == "--toml":
         return as_plan(source, target, force)
-    return as_rows(source, target, force, exact) if form == "--rows" else shown(source, exact)
+    if form == "--rows":
+        return as_rows(source, target, force, exact)
+    return as_diagram(source, target, force, exact) if form == "--svg" else shown(source, exact)
 
 
 def revision():
