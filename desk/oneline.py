@@ -4,9 +4,10 @@ No current is calculated here: bounds that the program printed are added up and 
 """
 from typing import NamedTuple
 
+from desk.records import SOURCES
+
 FEEDER, GENERATOR, MOTOR, CONVERTER = 1, 2, 3, 4
-KIND_WORDS = {FEEDER: ("feeder", "feeders"), GENERATOR: ("generator", "generators"), MOTOR: ("motor", "motors"),
-              CONVERTER: ("converter", "converters")}
+KIND_WORDS = {number: (kind.name, kind.name + "s") for number, kind in SOURCES.items()}
 VERDICT_WORDS = {"W": "within", "O": "over", "C": "close"}
 NO_SOURCE = 25  # the one ground that is not the fault of the row that it names
 

@@ -5,7 +5,7 @@ from collections import Counter
 
 from accept import Study
 from exact import CONVERTER
-from judge import NO_AMPERES, Amperes, Bench, verdict_reasons
+from judge import MACHINES_NEAR, NO_AMPERES, Amperes, Bench, verdict_reasons
 
 NUMBER = re.compile(r"0|[1-9][0-9]{0,19}")
 LETTERS = ("W", "O", "C")
@@ -30,7 +30,7 @@ class Tally:
             self.note("width", 1000 * (upper - lower) / (2000 + upper))
         least = judge.machines.peak_ceiling()
         self.note("peak", (amperes.machines_peak - least) / (4 + least / 50))
-        self.note("near", (amperes.machines_peak - least) / (1 + least * 0.0015))
+        self.note("near", (amperes.machines_peak - least) / (1 + least * float(MACHINES_NEAR - 1)))
         least = judge.converters.peak_ceiling()
         self.note("peak", (amperes.converters_peak - least) / (4 + least / 50))
 

@@ -5,11 +5,12 @@ python3 tests/judge/nearness.py --seed 1 --networks 2000 PROGRAM [PROGRAM ..]
 Networks are drawn as for run.py. The rating of each bus is out of the way, and
 its peak rating is drawn evenly from 90 % to 110 % of the least whole peak that
 would be right, so that verdicts hang on the peak. Counted are the buses whose
-machines' least whole peak is from 1,000 A, where an ampere of rounding says
-little, to 2,000,000 A, so that the ratings are in range. Of each program are
-printed the mean, the 99th percentile and the greatest of the machines' peaks'
-excess over the least whole peak, in percent, and how many buses it calls over
-that the least whole peaks would not.
+machines' least whole peak is at least 1,000 A, where an ampere of rounding says
+little, and all peaks together at most 1,400,000 A: the initial current is then
+below the highest rating, 1,000,000 A, and only a peak can be over. Of each
+program are printed the mean, the 99th percentile and the greatest of the
+machines' peaks' excess over the least whole peak, in percent, and how many
+buses it calls over that the least whole peaks would not.
 """
 
 import argparse
@@ -22,7 +23,7 @@ from judge import Bench
 from networks import TOP_RATING, any_network, with_ratings, write_file
 
 BENCH = Bench()
-COUNTED = range(1_000, 2_000_001)
+LEAST_COUNTED, MOST_COUNTED = 1_000, 1_400_000
 
 
 def rated(rng, draft):
@@ -47,11 +48,11 @@ class Figures:
         rows = done.stdout.decode().split("\r\n")[:-1]
         assert len(rows) == len(least), rows[:1]
         for row, (machines, converters), (_, peak_rating) in zip(rows, least, ratings):
-            if machines not in COUNTED:
+            if machines < LEAST_COUNTED or machines + converters > MOST_COUNTED:
                 continue
             fields = row.split(",")
             self.excess.append(100 * (int(fields[5]) - machines) / machines)
-            over = int(fields[5]) + int(fields[6]) > peak_rating
+            over = fields[7] == "O"
             self.over += over
             self.needless += over and machines + converters <= peak_rating
 

@@ -10,6 +10,7 @@ use lib.Dec.{T, lit≤}
 use lib.Pow.{pow-pos}
 use lib.Ieee.{Float, nan, inf, fin, binary64, round, le}
 use lib.Ieee.Order.{le-of-values, round-mono}
+use lib.Ieee.Bits.{is-true}
 use lib.Ieee.Positive.{num, den, den-pos, own-value, positive, positive-of-value, values-of-le, through, above, above-of-le}
 use Rattle.enclosure.specs.Doubles.{climb, squared, rootBelow}
 use Rattle.enclosure.specs.Climb.{above as doubled-above}
@@ -57,10 +58,6 @@ climb-unique test (suc k) low r f l h t u = go (test (low + 2 ^ k)) refl (climb-
     go false s x y = y (falling-lower test low (2 ^ k) (low + 2 ^ suc k) f e) l (lower-half test low (2 ^ k) (low + 2 ^ suc k) r f h s t) t u
 
 -- ---- f64's test x·x ≤ m
-truth : (b : Bool) → T b → b ≡ true
-truth true t = refl
-truth false t = absurd t
-
 -- the square of a larger whole number is no smaller
 squares-grow : (a b : ℕ) → a ≤ b → b ≤ 2 ^ 53 → T (le (squared a) (squared b))
 squares-grow a b h l =
@@ -105,8 +102,8 @@ pub root-falling : (m : Float) → Falling (λ r. le (squared r) m) 0 (0 + 2 ^ 5
 root-falling m a b z h l t =
     let x = square-rounds a (omega arith) .is in
     let y = square-rounds b (omega arith) .is in
-    truth (le (squared a) m)
-    (le-through (squared a) (squared b) m _ _ x y (le-units _ _ _ _ x y (truth (le (squared a) (squared b)) (squares-grow a b (omega arith) (omega arith))))
+    is-true (le (squared a) m)
+    (le-through (squared a) (squared b) m _ _ x y (le-units _ _ _ _ x y (is-true (le (squared a) (squared b)) (squares-grow a b (omega arith) (omega arith))))
     (positive-of-value (squared b) _ unit y (square-some b (omega arith) (omega arith))) (subst T (sym t) tt))
 
 -- THE GUESS: for every m, NaN, infinities and negative numbers among them

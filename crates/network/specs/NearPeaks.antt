@@ -1,5 +1,6 @@
 -- BESIDE DEMAND 3: peaks nearer to the exact ones than document 01 asks. A reader of demand 3 needs nothing of this file. Definitions
--- alone; what is calculated keeps them (`near-peaks` in Claim), and every query promises them (NearPromise).
+-- alone; what is calculated keeps them (`near-peaks` in Claim), and every query promises them (NearPromise). That Z and C are fractions,
+-- without which the comparisons would say nothing, is part of Demand, which the same query keeps.
 use Prim.Native.Nat.{ℕ, _*_}
 use Rattle.enclosure.specs.Close.{norm}
 use Rattle.enclosure.specs.Point.{Point}
