@@ -35,10 +35,10 @@ use figures::amperes_at;
 use source_grounds::source_record_number;
 
 // The buses that a study has room for.
-const BUSES: usize = 64;
+pub const BUSES: usize = 64;
 
 // The sources that a study has room for.
-const SOURCES: usize = 256;
+pub const SOURCES: usize = 256;
 
 // A bus with the branch to its parent. Of a line (kind 1) the fields are r, x, metres, circuits and 0; of a transformer (kind 2)
 // rated volts on the parent's side and on its own, kVA, uk and uR; bus 0 has kind 0 and no branch.
@@ -147,13 +147,41 @@ pub fn bus_total(s: Study) -> usize
 }
 
 // The number of sources.
-fn source_total(s: Study) -> usize
+pub fn source_total(s: Study) -> usize
     ensures { λ r. ⌜ r ≡ length (network s .sources) ⌝ }
 {
     if s.source_count < SOURCES {
         return s.source_count;
     }
     SOURCES
+}
+
+// The tolerance of a study.
+pub fn tolerance_of(s: Study) -> u32
+    ensures { λ r. ⌜ r ≡ network s .tolerance ⌝ }
+{
+    s.tolerance
+}
+
+// Whether a study is closed.
+pub fn is_closed(s: Study) -> bool
+    ensures { λ r. ⌜ r ≡ network s .closed ⌝ }
+{
+    s.closed
+}
+
+// The array of bus records, of which `bus_total` are counted.
+pub fn buses_of(s: Study) -> [Bus; BUSES]
+    ensures { λ r. ⌜ r ≡ s .buses ⌝ }
+{
+    s.buses
+}
+
+// The array of source records, of which `source_total` are counted.
+pub fn sources_of(s: Study) -> [Source; SOURCES]
+    ensures { λ r. ⌜ r ≡ s .sources ⌝ }
+{
+    s.sources
 }
 
 // The record of bus i, blank past the last one.

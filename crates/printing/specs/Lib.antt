@@ -1,3 +1,4 @@
 pub mod Printed
 pub mod Line
 pub mod Whole
+pub mod Digits
