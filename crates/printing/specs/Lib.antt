@@ -1,4 +1,3 @@
 pub mod Printed
 pub mod Line
 pub mod Whole
-pub mod Digits

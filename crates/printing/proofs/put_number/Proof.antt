@@ -1,6 +1,6 @@
 -- `printing::put_number` meets its contract: the digits are those that `io::decimal` gives. Assumes nothing.
 use borrow.Author.Needs.{needs}
-use Rattle.printing.specs.Digits.{decimal-digits}
+use Rattle.printing.proofs.Digits.{decimal-digits}
 use Rattle.printing.proofs.put_number.Statement.{statement}
 use Rattle.printing.proofs.put_number.Tie as tie
 
