@@ -4,6 +4,7 @@ use mathlib.Core.Logic.{_≢_}
 use mathlib.Core.List.{List, [], _∷_, _++_}
 use Prim.Native.Nat.{ℕ, suc, _+_, _≤_}
 use native.Mathlib.Omega.{arith}
+use native.Mathlib.Numerals.{add-one}
 use lib.ListN.{length, set, drop, length-append}
 use lib.Seq.{sets, sets-eq, length-sets, set-comm}
 
@@ -31,6 +32,14 @@ filled-both f g xs ys p q = filled-append f xs ys ∙ ap (λ (k : Fill). filled 
 pub filled-nothing : (f : Fill) → filled f [] ≡ f
 unfolding filled
 filled-nothing f = let e : f .1 + 0 ≡ f .1 = omega arith in rw e
+
+pub filled-byte : (l : List ℕ) (at b : ℕ) (text : List ℕ) → filled (l, at) (b ∷ text) ≡ filled (set l at b, at + 1) text
+unfolding filled
+filled-byte l at b text = let e : at + suc (length text) ≡ suc at + length text = omega arith in rw (add-one at, e)
+
+pub filled-two : (l : List ℕ) (at a b : ℕ) → filled (l, at) (a ∷ b ∷ []) ≡ (set (set l at a) (at + 1) b, at + 2)
+unfolding filled
+filled-two l at a b = rw (add-one at)
 
 -- ---- a text from its last byte on
 pub sets-last : (l : List ℕ) (at : ℕ) (xs : List ℕ) (y : ℕ) → sets l at (xs ++ (y ∷ [])) ≡ sets (set l (at + length xs) y) at xs

@@ -1,0 +1,97 @@
+-- What a turn of the loops counts and puts: the next number of a row, the next row of the records; and how long these are at most.
+use mathlib.Core.Path.{_≡_, refl, sym, ap, _∙_}
+use mathlib.Core.List.{List, [], _∷_, _++_, map, append-assoc}
+use Prim.Native.Nat.{ℕ, zero, suc, _+_, _*_, _≤_, _<_}
+use native.Mathlib.Nat.{mul-suc}
+use native.Mathlib.Omega.{arith}
+use native.Mathlib.Numerals.{add-one}
+use lib.ListN.{length, set, take, drop, getD, length-append, length-map, drop-of-length-le}
+use lib.Seq.{length-take-le, drop-cons, getD-take}
+use Rattle.reader.specs.File.{cr, lf, comma}
+use Rattle.printing.specs.Printed.{decimal, decimal-length}
+use Rattle.writer.specs.Text.{follow, rowText, line, records}
+use Rattle.writer.specs.laws.Filling.{Fill, filled, filled-byte, filled-both}
+
+-- ---- numbers
+abbrev pub numbersText : List ℕ → List ℕ
+numbersText vs = follow (map decimal vs)
+
+pub next-number : (vs : List ℕ) (i : ℕ) → i < length vs → numbersText (drop i vs) ≡ (comma ∷ decimal (getD vs i 0)) ++ numbersText (drop (i + 1) vs)
+next-number vs i h = rw (add-one i, drop-cons vs i 0 h)
+
+pub next-number-length : (vs : List ℕ) (i : ℕ) → i < length vs
+    → length (numbersText (drop i vs)) ≡ 1 + length (decimal (getD vs i 0)) + length (numbersText (drop (i + 1) vs))
+next-number-length vs i h = ap length (next-number vs i h) ∙ length-append (comma ∷ decimal (getD vs i 0)) (numbersText (drop (i + 1) vs)) ∙ omega arith
+
+pub next-number-filled : (l m : List ℕ) (at end : ℕ) (vs : List ℕ) (i : ℕ) (tail : List ℕ) → i < length vs
+    → filled (set l at comma, at + 1) (decimal (getD vs i 0)) ≡ (m, end)
+    → filled (m, end) (numbersText (drop (i + 1) vs) ++ tail) ≡ filled (l, at) (numbersText (drop i vs) ++ tail)
+next-number-filled l m at end vs i tail h e =
+    let digits = decimal (getD vs i 0) in
+    let later = numbersText (drop (i + 1) vs) in
+    sym (
+      ap (λ (text : List ℕ). filled (l, at) (text ++ tail)) (next-number vs i h)
+      ∙ filled-byte l at comma (digits ++ later ++ tail)
+      ∙ ap (filled (set l at comma, at + 1)) (append-assoc digits later tail)
+      ∙ filled-both (set l at comma, at + 1) (m, end) digits (later ++ tail) e refl
+    )
+
+-- whatever a number is, it has at most twenty digits
+pub numbers-most : (vs : List ℕ) → length (numbersText vs) ≤ 21 * length vs
+numbers-most [] = omega arith
+numbers-most (v ∷ vs) = omega (arith, length-append (decimal v) (numbersText vs), decimal-length v, numbers-most vs)
+
+pub line-length : (letter : ℕ) (vs : List ℕ) → length (line letter vs) ≡ 3 + length (numbersText vs)
+line-length letter vs = length-append (rowText letter vs) (cr ∷ lf ∷ []) ∙ omega arith
+
+-- ---- rows
+records-most : {X : Type 0} (letter : ℕ) (numbers : X → List ℕ) (most : ℕ) → ((x : X) → 3 + 21 * length (numbers x) ≤ most) → (l : List X)
+    → length (records letter numbers l) ≤ most * length l
+records-most letter numbers most h [] = omega arith
+records-most letter numbers most h (x ∷ l) =
+    omega (
+      arith,
+      length-append (line letter (numbers x)) (records letter numbers l),
+      line-length letter (numbers x),
+      numbers-most (numbers x),
+      h x,
+      records-most letter numbers most h l,
+      mul-suc most (length l),
+    )
+
+-- of the records of an array that are counted, the rows of those from place i on
+abbrev pub rowsFrom : {X : Type 0} → ℕ → (X → List ℕ) → List X → ℕ → ℕ → List ℕ
+rowsFrom letter numbers array total i = records letter numbers (drop i (take total array))
+
+module _ {X : Type 0} (letter : ℕ) (numbers : X → List ℕ) (array : List X) (total : ℕ) (room : total ≤ length array) where
+  pub rows-most : (most : ℕ) → ((x : X) → 3 + 21 * length (numbers x) ≤ most) → length (records letter numbers (take total array)) ≤ most * total
+  rows-most most h = rw (length-take-le total array room) at (records-most letter numbers most h (take total array))
+
+  pub rows-end : (i : ℕ) → total ≤ i → rowsFrom letter numbers array total i ≡ []
+  rows-end i h = rw (drop-of-length-le (take total array) {i = i} (omega (arith, length-take-le total array room)))
+
+  -- the next row, from the numbers of the record at place i
+  module _ (d : X) (i : ℕ) (h : i < total) (vs : List ℕ) (same : vs ≡ numbers (getD array i d)) where
+    next-row : rowsFrom letter numbers array total i ≡ line letter vs ++ rowsFrom letter numbers array total (i + 1)
+    next-row =
+        let p : i < length (take total array) = omega (arith, length-take-le total array room) in
+        rw (add-one i, drop-cons (take total array) i d p, getD-take total array i d h, same)
+
+    pub next-row-length : length (rowsFrom letter numbers array total i) ≡ length (line letter vs) + length (rowsFrom letter numbers array total (i + 1))
+    next-row-length = ap length next-row ∙ length-append (line letter vs) (rowsFrom letter numbers array total (i + 1))
+
+    pub next-row-filled : (f g : Fill) → filled f (line letter vs) ≡ g
+        → filled g (rowsFrom letter numbers array total (i + 1)) ≡ filled f (rowsFrom letter numbers array total i)
+    next-row-filled f g e =
+        sym (ap (filled f) next-row ∙ filled-both f g (line letter vs) (rowsFrom letter numbers array total (i + 1)) e refl)
+
+-- ---- the records of a study
+-- the length of an array in a struct, from what owning the struct tells of its list of data tuples
+pub length-mapped : {X Y : Type 0} (f : X → Y) (l : List X) (n : ℕ) → length (map f l) ≡ n → length l ≡ n
+length-mapped f l n e = sym (length-map l f) ∙ e
+
+-- as many records of an array as are counted
+pub counted-same : {X : Type 0} (n : ℕ) (l : List X) → take (length (take n l)) l ≡ take n l
+counted-same zero l = refl
+counted-same (suc n) [] = refl
+counted-same (suc n) (x ∷ l) = ap (λ (r : List _). x ∷ r) (counted-same n l)
