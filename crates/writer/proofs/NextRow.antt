@@ -7,9 +7,10 @@ use native.Mathlib.Omega.{arith}
 use native.Mathlib.Numerals.{add-one}
 use lib.ListN.{length, set, take, drop, getD, length-append, length-map, drop-of-length-le}
 use lib.Seq.{length-take-le, drop-cons, getD-take}
-use Rattle.reader.specs.File.{cr, lf, comma}
+use Rattle.network.specs.Network.{Network}
+use Rattle.reader.specs.File.{cr, lf, comma, letterS, letterB, letterP}
 use Rattle.printing.specs.Printed.{decimal, decimal-length}
-use Rattle.writer.specs.Text.{follow, rowText, line, records}
+use Rattle.writer.specs.Text.{busNumbers, sourceNumbers, follow, rowText, line, records, textOf}
 use Rattle.writer.specs.laws.Filling.{Fill, filled, filled-byte, filled-both}
 
 -- ---- numbers
@@ -30,10 +31,10 @@ next-number-filled l m at end vs i tail h e =
     let digits = decimal (getD vs i 0) in
     let later = numbersText (drop (i + 1) vs) in
     sym (
-      ap (λ (text : List ℕ). filled (l, at) (text ++ tail)) (next-number vs i h)
-      ∙ filled-byte l at comma (digits ++ later ++ tail)
-      ∙ ap (filled (set l at comma, at + 1)) (append-assoc digits later tail)
-      ∙ filled-both (set l at comma, at + 1) (m, end) digits (later ++ tail) e refl
+    ap (λ (text : List ℕ). filled (l, at) (text ++ tail)) (next-number vs i h)
+    ∙ filled-byte l at comma (digits ++ later ++ tail)
+    ∙ ap (filled (set l at comma, at + 1)) (append-assoc digits later tail)
+    ∙ filled-both (set l at comma, at + 1) (m, end) digits (later ++ tail) e refl
     )
 
 -- whatever a number is, it has at most twenty digits
@@ -45,7 +46,7 @@ pub line-length : (letter : ℕ) (vs : List ℕ) → length (line letter vs) ≡
 line-length letter vs = length-append (rowText letter vs) (cr ∷ lf ∷ []) ∙ omega arith
 
 -- ---- rows
-records-most : {X : Type 0} (letter : ℕ) (numbers : X → List ℕ) (most : ℕ) → ((x : X) → 3 + 21 * length (numbers x) ≤ most) → (l : List X)
+pub records-most : {X : Type 0} (letter : ℕ) (numbers : X → List ℕ) (most : ℕ) → ((x : X) → 3 + 21 * length (numbers x) ≤ most) → (l : List X)
     → length (records letter numbers l) ≤ most * length l
 records-most letter numbers most h [] = omega arith
 records-most letter numbers most h (x ∷ l) =
@@ -91,7 +92,28 @@ pub length-mapped : {X Y : Type 0} (f : X → Y) (l : List X) (n : ℕ) → leng
 length-mapped f l n e = sym (length-map l f) ∙ e
 
 -- as many records of an array as are counted
-pub counted-same : {X : Type 0} (n : ℕ) (l : List X) → take (length (take n l)) l ≡ take n l
+counted-same : {X : Type 0} (n : ℕ) (l : List X) → take (length (take n l)) l ≡ take n l
 counted-same zero l = refl
 counted-same (suc n) [] = refl
 counted-same (suc n) (x ∷ l) = ap (λ (r : List _). x ∷ r) (counted-same n l)
+
+pub counted : {X : Type 0} (n total : ℕ) (l array : List X) → total ≡ length (take n l) → array ≡ l → take total array ≡ take n l
+counted n total l array e same = rw (e, same) (counted-same n l)
+
+-- ---- the whole text, in its three parts
+pub text-length : (n : Network) → length (textOf n)
+    ≡ length (line letterS (n .tolerance ∷ [])) + length (records letterB busNumbers (n .buses)) + length (records letterP sourceNumbers (n .sources))
+unfolding textOf
+text-length n =
+    let start = line letterS (n .tolerance ∷ []) in
+    let buses = records letterB busNumbers (n .buses) in
+    let sources = records letterP sourceNumbers (n .sources) in
+    omega (arith, length-append start (buses ++ sources), length-append buses sources)
+
+pub text-filled : (n : Network) (f g h : Fill) {k : Fill}
+    → filled f (line letterS (n .tolerance ∷ [])) ≡ g → filled g (records letterB busNumbers (n .buses)) ≡ h → filled h (records letterP sourceNumbers (n .sources)) ≡ k
+    → filled f (textOf n) ≡ k
+unfolding textOf
+text-filled n f g h start buses sources =
+    filled-both f g (line letterS (n .tolerance ∷ [])) (records letterB busNumbers (n .buses) ++ records letterP sourceNumbers (n .sources)) start
+    (filled-both g h (records letterB busNumbers (n .buses)) (records letterP sourceNumbers (n .sources)) buses sources)

@@ -1,3 +1,13 @@
+-- `text_size` meets its contract: the row of the tolerance, those of the buses and those of the sources make the text.
+use mathlib.Core.Path.{_≡_, ap, _∙_}
+use mathlib.Core.List.{List, [], _∷_}
+use Prim.Native.Nat.{ℕ, _+_, _≤_}
+use native.Mathlib.Omega.{arith}
+use lib.ListN.{length, take, length-take}
+use Rattle.network.specs.Network.{network, maxBuses, maxSources}
+use Rattle.reader.specs.File.{letterS, letterB, letterP}
+use Rattle.writer.specs.Text.{busNumbers, sourceNumbers, line, records}
+use Rattle.writer.proofs.NextRow.{length-mapped, counted, numbers-most, line-length, records-most, text-length}
 use borrow.Author.Needs.{needs}
 use borrow.Author.Needs.{needs}
 use Rattle.writer.proofs.text_size.Statement.{statement}
@@ -10,7 +20,7 @@ slice-aggregate-row-size : tie.Need-slice-aggregate-row-size
 slice-aggregate-row-size c = search needs
 
 row-size-requires : tie.Need-row-size-requires
-row-size-requires c κs = search needs
+row-size-requires c κs = omega arith
 
 buses-of-requires : tie.Need-buses-of-requires
 buses-of-requires c κs = search needs
@@ -19,7 +29,10 @@ bus-total-requires : tie.Need-bus-total-requires
 bus-total-requires c κs = search needs
 
 buses-size-requires : tie.Need-buses-size-requires
-buses-size-requires c κs = search needs
+buses-size-requires c κs =
+    let s = c .before .before .before .before .before .args .s in
+    let whole : length (s .buses) ≡ maxBuses = search (needs, length-mapped) in
+    omega (arith, c .bus-total .ensures, length-take (s .«bus_count») (s .buses))
 
 sources-of-requires : tie.Need-sources-of-requires
 sources-of-requires c κs = search needs
@@ -28,16 +41,62 @@ source-total-requires : tie.Need-source-total-requires
 source-total-requires c κs = search needs
 
 sources-size-requires : tie.Need-sources-size-requires
-sources-size-requires c κs = search needs
+sources-size-requires c κs =
+    let s = c .before .before .before .before .before .before .before .before .args .s in
+    let whole : length (s .sources) ≡ maxSources = search (needs, length-mapped) in
+    omega (arith, c .source-total .ensures, length-take (s .«source_count») (s .sources))
 
 add-result : tie.Need-add-result
-add-result c = search needs
+add-result c =
+    let s = c .before .before .before .before .before .before .before .before .before .args .s in
+    let t = c .before .before .before .before .before .before .before .before .tolerance-of .result in
+    let buses = take (c .before .before .before .before .bus-total .result) (c .before .before .before .before .before .buses-of .result) in
+    let sources = take (c .before .source-total .result) (c .before .before .sources-of .result) in
+    let whole : length (s .buses) ≡ maxBuses = search (needs, length-mapped) in
+    omega (
+      arith,
+      c .before .before .before .before .before .before .row-size .ensures letterS,
+      line-length letterS (t ∷ []),
+      numbers-most (t ∷ []),
+      c .before .before .before .buses-size .ensures,
+      records-most letterB busNumbers 213 (λ x. omega arith) buses,
+      length-take (c .before .before .before .before .bus-total .result) (c .before .before .before .before .before .buses-of .result),
+      c .before .before .before .before .bus-total .ensures,
+      length-take (s .«bus_count») (s .buses),
+    )
 
 add-result-2 : tie.Need-add-result-2
-add-result-2 c = search needs
+add-result-2 c =
+    let s = c .before .before .before .before .before .before .before .before .before .args .s in
+    let t = c .before .before .before .before .before .before .before .before .tolerance-of .result in
+    let buses = take (c .before .before .before .before .bus-total .result) (c .before .before .before .before .before .buses-of .result) in
+    let sources = take (c .before .source-total .result) (c .before .before .sources-of .result) in
+    let whole : length (s .buses) ≡ maxBuses = search (needs, length-mapped) in
+    let whole-sources : length (s .sources) ≡ maxSources = search (needs, length-mapped) in
+    omega (
+      arith,
+      c .before .before .before .before .before .before .row-size .ensures letterS,
+      line-length letterS (t ∷ []),
+      numbers-most (t ∷ []),
+      c .before .before .before .buses-size .ensures,
+      records-most letterB busNumbers 213 (λ x. omega arith) buses,
+      length-take (c .before .before .before .before .bus-total .result) (c .before .before .before .before .before .buses-of .result),
+      c .before .before .before .before .bus-total .ensures,
+      length-take (s .«bus_count») (s .buses),
+      c .sources-size .ensures,
+      records-most letterP sourceNumbers 150 (λ x. omega arith) sources,
+      length-take (c .before .source-total .result) (c .before .before .sources-of .result),
+      c .before .source-total .ensures,
+      length-take (s .«source_count») (s .sources),
+    )
 
 returns : tie.Need-returns
-returns c = search needs
+returns c =
+    let s = c .before .before .before .before .before .before .before .before .before .args .s in
+    let start = c .before .before .before .before .before .before .row-size .ensures letterS ∙ ap (λ (t : ℕ). length (line letterS (t ∷ []))) (c .before .before .before .before .before .before .before .before .tolerance-of .ensures) in
+    let buses = c .before .before .before .buses-size .ensures ∙ ap (λ (l : List _). length (records letterB busNumbers l)) (counted (s .«bus_count») _ (s .buses) _ (c .before .before .before .before .bus-total .ensures) (c .before .before .before .before .before .buses-of .ensures)) in
+    let sources = c .sources-size .ensures ∙ ap (λ (l : List _). length (records letterP sourceNumbers l)) (counted (s .«source_count») _ (s .sources) _ (c .before .source-total .ensures) (c .before .before .sources-of .ensures)) in
+    omega (arith, text-length (network s))
 
 pub text-size-spec : {M : Type 1} → statement M
 text-size-spec =
