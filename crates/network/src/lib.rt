@@ -13,6 +13,7 @@ ghost use Rattle.network.specs.Grounds.{emptyOf, startNumber, startNetwo
 mod bus_grounds;
 mod checks;
 mod columns;
+mod contents;
 mod converters;
 mod figures;
 mod records;
@@ -20,6 +21,10 @@ mod source_grounds;
 mod walk;
 
 use bus_grounds::bus_record_number;
+pub use contents::buses_of;
+pub use contents::is_closed;
+pub use contents::sources_of;
+pub use contents::tolerance_of;
 use enclosure::amperes::Peak;
 use enclosure::amperes::Rms;
 use enclosure::amperes::add_peak;
@@ -154,34 +159,6 @@ pub fn source_total(s: Study) -> usize
         return s.source_count;
     }
     SOURCES
-}
-
-// The tolerance of a study.
-pub fn tolerance_of(s: Study) -> u32
-    ensures { λ r. ⌜ r ≡ network s .tolerance ⌝ }
-{
-    s.tolerance
-}
-
-// Whether a study is closed.
-pub fn is_closed(s: Study) -> bool
-    ensures { λ r. ⌜ r ≡ network s .closed ⌝ }
-{
-    s.closed
-}
-
-// The array of bus records, of which `bus_total` are counted.
-pub fn buses_of(s: Study) -> [Bus; BUSES]
-    ensures { λ r. ⌜ r ≡ s .buses ⌝ }
-{
-    s.buses
-}
-
-// The array of source records, of which `source_total` are counted.
-pub fn sources_of(s: Study) -> [Source; SOURCES]
-    ensures { λ r. ⌜ r ≡ s .sources ⌝ }
-{
-    s.sources
 }
 
 // The record of bus i, blank past the last one.
