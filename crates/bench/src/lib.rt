@@ -1,14 +1,16 @@
-// What C times: the operations of enclosing arithmetic (bench/enclosure.c), where a point goes in and comes out by its parts, and
-// reading and querying a study (bench/queries.c).
+// What C times: the operations of enclosing arithmetic (bench/enclosure.c), where a point goes in and comes out by its parts, reading
+// and querying a study (bench/queries.c), and writing it (bench/writes.c).
 ghost use mathlib.Core.Path.{_≡_};
 ghost use Prim.Native.Nat.{_<_, _+_};
 ghost use Rattle.enclosure.specs.Doubles.{added, inverted, scaled, rootBelow};
 ghost use Rattle.network.specs.Network.{network};
 ghost use Rattle.reader.specs.File.{readOf};
 ghost use Rattle.bench.specs.Queries.{sumsOf};
+ghost use Rattle.bench.specs.Writes.{writtenTimes};
 use enclosure::Complex;
 use network::Study;
 use network::query;
+use writer::write;
 
 #[no_mangle]
 pub extern "C" fn enclosure_add(a: f64, b: f64, c: f64, d: f64, re: &mut f64, im: &mut f64)
@@ -74,4 +76,27 @@ pub extern "C" fn network_sums(text: &[u8], last: u8, k: u32) -> f64
     let reading = reader::read(text);
     let n = last as u32 + 1;
     sums(reading.study, n, k)
+}
+
+// A study written k times into the buffer; the length that the last writing reported.
+fn writes(s: Study, buffer: &mut [u8], k: u32) -> usize
+    ensures { λ r. ⌜ writtenTimes (network s) (now (buffer .entry)) k ≡ (now (buffer .exit), r) ⌝ }
+{
+    let mut length: usize = 0;
+    let mut i: u32 = 0;
+    while i < k {
+        let written = write(s, buffer);
+        length = written.length;
+        i += 1;
+    }
+    length
+}
+
+// A text read, and its study written k times.
+#[no_mangle]
+pub extern "C" fn study_writes(text: &[u8], buffer: &mut [u8], k: u32) -> usize
+    ensures { λ r. ⌜ writtenTimes (readOf (now (text .entry)) .network) (now (buffer .entry)) k ≡ (now (buffer .exit), r) ⌝ }
+{
+    let reading = reader::read(text);
+    writes(reading.study, buffer, k)
 }
