@@ -48,9 +48,9 @@ options
         Writes a plan as rows, with CRLF, in the same way. Only rows that the program accepts are written.
     --write IN [OUT]
         Writes rows or a plan as tidy rows, in the same way: S, all buses, all sources, each row with CRLF. Buses and sources
-        keep their order, so that no bus gets another number. It says how many there are and, of a plan, that rows have no
-        names. The text comes from the proved program target/bin/console, which is built by `rt check console` where it is
-        not there yet.
+        keep their order, so that no bus gets another number. It says how many there are and how many bytes, on standard
+        error where the rows go to standard output, and of a plan that rows have no names. The text comes from the proved
+        program target/bin/console, which is built first by `rt check console` where it is not there yet.
     --svg IN [OUT]
         Draws rows or a plan as a one-line diagram, in the same way: an SVG file with the upper bound of the initial
         current, the peak and the verdict of each bus, by colour, letter and shape. A browser opens and prints it.

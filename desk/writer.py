@@ -33,7 +33,7 @@ def text_in(said):
 
 
 def in_order(text, buses):
-    """The text of an accepted study in order, with `buses` as the program answered it; both texts have the same answer."""
+    """The text of an accepted study, in order. `buses` is the program's answer to it, and has to be its answer to the result."""
     said = output(CONSOLE, b"read,%b\nwrite,%d\n" % (text.hex().encode(), ROOM)).split("\n")
     if len(said) != 3 or said[-1]:
         raise Trouble(f"{CONSOLE} was given two lines, and did not answer with two")
