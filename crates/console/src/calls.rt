@@ -1,5 +1,9 @@
 // The calls. Each takes the study, what stands after its word, and gives the study after it.
 ghost use mathlib.Core.Path.{_≡_};
+ghost use lib.ListN.{length, replicate};
+ghost use Rattle.network.specs.Network.{network};
+ghost use Rattle.writer.specs.Writing.{afterWrite};
+ghost use Rattle.console.specs.Answers.{filler};
 use crate::answers::print_error;
 use crate::answers::print_found;
 use crate::answers::print_number;
@@ -99,7 +103,9 @@ fn make_read(s: Study, rest: &[u8], text: &mut [u8; TEXT]) -> Study {
 }
 
 // The whole room is printed, so that what the call keeps of it is seen too.
-fn write_into(s: Study, lent: &mut [u8]) {
+fn write_into(s: Study, lent: &mut [u8])
+    ensures { λ _. ⌜ now (lent .exit) ≡ afterWrite (network s) (replicate (length (now (lent .entry))) filler) ⌝ }
+{
     fill(lent);
     let done = writer::write(s, lent);
     print_written(done.number, done.length, lent);
