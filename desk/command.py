@@ -5,7 +5,7 @@ import subprocess
 from desk.drawing import as_diagram
 from desk.help import HELP, USAGE
 from desk.program import ROOT
-from desk.rewriting import as_plan, as_rows, fixed
+from desk.rewriting import as_plan, as_rows, fixed, in_rows
 from desk.streams import Answer, complain, deliver
 from desk.studies import shown
 from desk.trouble import Trouble
@@ -16,6 +16,7 @@ FORMS = {
     "--fix": ({"--force"}, (2,)),
     "--toml": ({"--force"}, (1, 2)),
     "--rows": ({"--force", "--exact"}, (1, 2)),
+    "--write": ({"--force", "--exact"}, (1, 2)),
     "--svg": ({"--force", "--exact"}, (1, 2)),
     "--help": (set(), (0,)),
     "--version": (set(), (0,)),
@@ -62,6 +63,8 @@ def carried_out(words):
         return as_plan(source, target, force)
     if form == "--rows":
         return as_rows(source, target, force, exact)
+    if form == "--write":
+        return in_rows(source, target, force, exact)
     return as_diagram(source, target, force, exact) if form == "--svg" else shown(source, exact)
 
 

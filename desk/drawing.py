@@ -2,12 +2,9 @@
 import os
 
 from desk import diagram, oneline
-from desk.plan import Mistakes
-from desk.program import Refusal, answer
 from desk.records import rows_of
-from desk.rewriting import source_of, written
-from desk.streams import Answer
-from desk.studies import Study, from_plan, is_plan, mistaken, refused, rounded
+from desk.rewriting import with_accepted, written
+from desk.studies import rounded
 from desk.table import bus_line
 
 
@@ -26,12 +23,6 @@ def drawn(study, buses, title):
 
 def as_diagram(source, target, force, exact):
     """Rows or a plan as a diagram. The program is asked first: what it refuses is explained and not drawn."""
-    data = source_of(source, target)
-    try:
-        study = from_plan(data, exact) if is_plan(source, data) else Study(data)
-    except Mistakes as found:
-        return Answer(1, notes=mistaken(found))
-    got = answer(study.rows)
-    if isinstance(got, Refusal):
-        return Answer(1, notes=refused(study, got))
-    return written(drawn(study, got, title_of(source)).encode("utf-8"), target, force, rounded(study))
+    def make(study, got):
+        return written(drawn(study, got, title_of(source)).encode("utf-8"), target, force, rounded(study))
+    return with_accepted(source, target, exact, make)

@@ -1,6 +1,6 @@
 """What `board` says of itself."""
 
-USAGE = "usage: board FILE, or board --fix | --toml | --rows | --svg IN OUT   (board --help says more)"
+USAGE = "usage: board FILE, or board --fix | --toml | --rows | --write | --svg IN OUT   (board --help says more)"
 HELP = """\
 name
     board - short-circuit currents of a study, as a table for people
@@ -10,6 +10,7 @@ usage
     board --fix IN OUT [--force]
     board --toml IN [OUT] [--force]
     board --rows [--exact] IN [OUT] [--force]
+    board --write [--exact] IN [OUT] [--force]
     board --svg [--exact] IN [OUT] [--force]
     board --help | --version
 
@@ -45,12 +46,17 @@ options
         or with `-`, it goes to standard output.
     --rows IN [OUT]
         Writes a plan as rows, with CRLF, in the same way. Only rows that the program accepts are written.
+    --write IN [OUT]
+        Writes rows or a plan as tidy rows, in the same way: S, all buses, all sources, each row with CRLF. Buses and sources
+        keep their order, so that no bus gets another number. It says how many there are and how many bytes, on standard
+        error where the rows go to standard output, and of a plan that rows have no names. The text comes from the proved
+        program target/bin/console, which is built first by `rt check console` where it is not there yet.
     --svg IN [OUT]
         Draws rows or a plan as a one-line diagram, in the same way: an SVG file with the upper bound of the initial
         current, the peak and the verdict of each bus, by colour, letter and shape. A browser opens and prints it.
-        With --toml, --rows and --svg, roundings and refusals go to standard error.
+        With --toml, --rows, --write and --svg, roundings and refusals go to standard error.
     --force
-        With --fix, --toml, --rows and --svg: OUT is overwritten where it is there already. IN is never changed.
+        With --fix, --toml, --rows, --write and --svg: OUT is overwritten where it is there already. IN is never changed.
     --help, --version
         This text; the name and the revision.
     --
@@ -67,6 +73,7 @@ examples
     ./board - < examples/substation.csv
     ./board --toml examples/town.csv plan.toml && ./board --exact plan.toml
     ./board --rows examples/from-data-sheets.toml | ./board -
+    ./board --write examples/substation.csv tidy.csv && ./board tidy.csv
     ./board --svg examples/town.toml town.svg
     tr -d '\\r' < examples/town.csv > unix.csv; ./board --fix unix.csv mended.csv && ./board mended.csv
 """

@@ -1,13 +1,14 @@
-"""Runs the proved program, target/bin/noldveig, and takes its answer apart. Where it is not there yet, rt builds it first."""
+"""Runs the proved programs of target/bin, and takes the answer of noldveig apart. One that is not there yet rt builds first."""
 import subprocess
-import sys
 from pathlib import Path
 from typing import NamedTuple
 
+from desk.streams import complain
 from desk.trouble import Trouble, reason
 
 ROOT = Path(__file__).resolve().parent.parent
 PROGRAM = ROOT / "target/bin/noldveig"
+CONSOLE = ROOT / "target/bin/console"  # what desk/writer.py asks
 
 
 class Refusal(NamedTuple):
@@ -16,12 +17,12 @@ class Refusal(NamedTuple):
     row: int
 
 
-def build():
-    """Proves and builds the program. On standard error: how far it is, and all that rt says where it fails."""
-    print("board: proving and building the program, once; some minutes", file=sys.stderr)
-    said = []
+def build(program):
+    """Proves and builds a program. On standard error: how far it is, and all that rt says where it fails."""
+    name, said = program.name, []
+    complain(f"board: proving and building the program {name}, once; some minutes")
     try:
-        child = subprocess.Popen(["rt", "check", "noldveig"], cwd=ROOT, stdin=subprocess.DEVNULL, stdout=subprocess.PIPE,
+        child = subprocess.Popen(["rt", "check", name], cwd=ROOT, stdin=subprocess.DEVNULL, stdout=subprocess.PIPE,
                                  stderr=subprocess.STDOUT, encoding="utf-8", errors="replace")
     except OSError as error:
         raise Trouble(f"rt, the Rattle kit's command, does not run: {reason(error)}") from None
@@ -29,28 +30,28 @@ def build():
         for line in child.stdout:
             said.append(line)
             if line.startswith("rt: "):
-                print(line, end="", file=sys.stderr, flush=True)
-    if child.returncode != 0 or not PROGRAM.exists():
-        print("".join(said), end="", file=sys.stderr)
-        raise Trouble("`rt check noldveig` did not build the program; what it said is above")
+                complain(line.rstrip("\n"))
+    if child.returncode != 0 or not program.exists():
+        complain("".join(said).rstrip("\n"))
+        raise Trouble(f"`rt check {name}` did not build the program; what it said is above")
 
 
-def printed(text):
-    """The rows that the program prints for a study, each as its fields."""
-    if not PROGRAM.exists():
-        build()
+def output(program, given):
+    """What a program writes for what it is given."""
+    if not program.exists():
+        build(program)
     try:
-        done = subprocess.run([str(PROGRAM)], input=text, capture_output=True)
+        done = subprocess.run([str(program)], input=given, capture_output=True)
     except OSError as error:
-        raise Trouble(f"{PROGRAM} does not run: {reason(error)}") from None
+        raise Trouble(f"{program} does not run: {reason(error)}") from None
     if done.returncode != 0:
-        raise Trouble(f"{PROGRAM} ended with status {done.returncode}")
-    return [row.split(",") for row in done.stdout.decode("ascii", "replace").split("\r\n") if row]
+        raise Trouble(f"{program} ended with status {done.returncode}")
+    return done.stdout.decode("ascii", "replace")
 
 
 def answer(text):
     """A Refusal, or the row of each bus: its number, the six amperes and the letter of the verdict."""
-    rows = printed(text)
+    rows = [row.split(",") for row in output(PROGRAM, text).split("\r\n") if row]
     try:
         if rows and rows[0][0] == "refused":
             (_, number, row), = rows

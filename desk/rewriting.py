@@ -1,12 +1,14 @@
-"""What writes a study down in another way: --fix mends its rows, --toml makes a plan of them, --rows makes rows of a plan."""
+"""What writes a study down in another way: --fix mends its rows, --toml makes a plan of them, --rows makes rows of a plan, and
+--write puts the rows of either in order."""
 from desk import files
 from desk.mend import mended
 from desk.plan import Mistakes, plan_of_rows
 from desk.program import Refusal, answer
-from desk.records import listed
+from desk.records import listed, rows_of
 from desk.streams import Answer
-from desk.studies import Study, from_plan, mistaken, refused, rounded
+from desk.studies import Study, from_plan, is_plan, mistaken, refused, rounded
 from desk.trouble import Trouble
+from desk.writer import in_order
 
 
 def source_of(source, target):
@@ -54,11 +56,11 @@ def fixed(source, target, force):
 
 # ---- rows to a plan and back: standard output has the result alone, so that it can be handed on
 
-def written(content, target, force, notes=""):
+def written(content, target, force, notes="", counts=""):
     if target == "-":
         return Answer(0, content, notes)
     files.write(target, content, force)
-    return Answer(0, f"{target} is written, {len(content):,} bytes.", notes)
+    return Answer(0, f"{target} is written, {counts}{len(content):,} bytes.", notes)
 
 
 def as_plan(source, target, force):
@@ -80,3 +82,38 @@ def as_rows(source, target, force, exact):
     if isinstance(got, Refusal):
         return Answer(1, notes=refused(study, got))
     return written(study.rows, target, force, rounded(study))
+
+
+# ---- rows or a plan
+
+def with_accepted(source, target, exact, make):
+    """What `make` gives for a study, in rows or as a plan, and the program's answer. What is refused is explained instead."""
+    data = source_of(source, target)
+    try:
+        study = from_plan(data, exact) if is_plan(source, data) else Study(data)
+    except Mistakes as found:
+        return Answer(1, notes=mistaken(found))
+    got = answer(study.rows)
+    if isinstance(got, Refusal):
+        return Answer(1, notes=refused(study, got))
+    return make(study, got)
+
+
+def counted(text):
+    """The buses and the sources of a text, in words that more follows."""
+    letters = [row[:1] for row in rows_of(text)]
+    buses, sources = letters.count(b"B"), letters.count(b"P")
+    return f"{buses} {'bus' if buses == 1 else 'buses'}, {sources} {'source' if sources == 1 else 'sources'}, "
+
+
+def in_rows(source, target, force, exact):
+    """Rows or a plan as the proved writer puts them down: S, all buses, all sources."""
+    def make(study, got):
+        content = in_order(study.rows, got)
+        counts = counted(content)
+        notes = [f"Written: {counts}{len(content):,} bytes."] if target == "-" else []
+        notes.append(rounded(study))
+        if study.names:
+            notes.append(f"The buses' names stand in {files.name_of(source)} alone; rows have none.")
+        return written(content, target, force, "\n".join(filter(None, notes)), counts)
+    return with_accepted(source, target, exact, make)
