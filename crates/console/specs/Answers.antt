@@ -34,11 +34,11 @@ unfoldable pub foundLine : Found → List ℕ
 foundLine f = decimal (f .number) ++ amperesText (f .amperes) ++ letterText (f .verdict) ++ nextText (wholeOf (amountOf (f .verdict))) ++ (lf ∷ [])
 
 -- ---- the answer to `write`, of any length
--- what a lent room is filled with: 0x55
+-- "each byte is 0x55 before the call"
 abbrev pub filler : ℕ
 filler = 85
 
--- "lower-case hexadecimal digits": of half a byte
+-- "in lower-case hexadecimal digits": half a byte
 unfoldable pub hexDigit : ℕ → ℕ
 hexDigit half = cond (ltb half 10) (48 + half) (87 + half)
 
@@ -46,18 +46,23 @@ hexDigit half = cond (ltb half 10) (48 + half) (87 + half)
 abbrev pub hexByte : ℕ → List ℕ
 hexByte b = hexDigit (b / 16) ∷ hexDigit (b % 16) ∷ []
 
--- "HEX"
+-- "HEX": the digits of each byte in turn
 unfoldable pub hexText : List ℕ → List ℕ
 hexText [] = []
 hexText (b ∷ bytes) = hexByte b ++ hexText bytes
 
--- "number, length", and the comma before HEX
+-- "number, length" and the comma before HEX
 unfoldable pub writtenHead : ℕ → ℕ → List ℕ
 writtenHead number size = decimal number ++ nextText size ++ (comma ∷ [])
 
 -- "number, length and HEX, the whole lent room"
 unfoldable pub writtenLine : ℕ → ℕ → List ℕ → List ℕ
 writtenLine number size lent = writtenHead number size ++ hexText lent ++ (lf ∷ [])
+
+-- CR, LF and 0x55 are `0d0a55`; no room for a closed study is `30,0,`
+worked : (hexText (13 ∷ 10 ∷ 85 ∷ []) ≡ 48 ∷ 100 ∷ 48 ∷ 97 ∷ 53 ∷ 53 ∷ []) × (writtenLine 30 0 [] ≡ 51 ∷ 48 ∷ 44 ∷ 48 ∷ 44 ∷ 10 ∷ [])
+unfolding hexDigit hexText writtenHead writtenLine decimal nextText
+worked = (refl, refl)
 
 -- how many bytes' digits fill a line
 abbrev pub chunk : ℕ
@@ -95,7 +100,7 @@ found-fits f =
     simp length-append
     (omega (arith, decimal-length (f .number), amperes-length (f .amperes), letter-length (f .verdict), next-length (wholeOf (amountOf (f .verdict)))))
 
--- ---- a part of the answer to `write` fits a line, and its parts joined are the whole
+-- ---- each part of the answer to `write` fits a line
 pub head-fits : (number size : ℕ) → length (writtenHead number size) ≤ room
 unfolding writtenHead
 head-fits number size = simp length-append (omega (arith, decimal-length number, next-length size))
@@ -109,6 +114,7 @@ pub chunk-fits : (k : ℕ) (bytes : List ℕ) → length (hexText (chunkOf k byt
 unfolding chunkOf
 chunk-fits k bytes = omega (arith, hex-length (chunkOf k bytes), length-take chunk (drop (k * chunk) bytes))
 
+-- ---- and the parts joined, the head, the chunks and LF, are the answer
 hex-both : (a b : List ℕ) → hexText (a ++ b) ≡ hexText a ++ hexText b
 unfolding hexText
 hex-both [] b = refl

@@ -1,8 +1,8 @@
 -- `console::hex::fill` meets its contract. The invariant: the bytes that were passed are the filler. The measure is the number of bytes
 -- that are left. Assumes nothing.
 use mathlib.Core.Path.{_≡_, refl, sym, ap, _∙_}
-use mathlib.Core.List.{List, [], _∷_, _++_}
-use Prim.Native.Nat.{ℕ, _-_, _≤_, _<_}
+use mathlib.Core.List.{[], _∷_, _++_}
+use Prim.Native.Nat.{ℕ, suc, _-_, _≤_, _<_}
 use native.Mathlib.Omega.{arith}
 use native.Mathlib.Numerals.{add-one}
 use lib.ListN.{length, take, replicate, length-set, replicate-append-replicate}
@@ -11,6 +11,9 @@ use borrow.Author.Needs.{needs}
 use Rattle.console.specs.Answers.{filler}
 use Rattle.console.proofs.hex.fill.Statement.{statement}
 use Rattle.console.proofs.hex.fill.Tie as tie
+
+one-more : (n : ℕ) → replicate n filler ++ (filler ∷ []) ≡ replicate (suc n) filler
+one-more n = replicate-append-replicate n 1 filler ∙ ap (λ (k : ℕ). replicate k filler) (add-one n)
 
 abbrev Inv-loop : tie.InvT-loop
 Inv-loop room₀ i₀ room i = (length room ≡ length room₀) × (i ≤ length room) × (take i room ≡ replicate i filler)
@@ -37,7 +40,7 @@ loop-again c =
     let size = length-set (l .room) (l .i) filler in (
       size ∙ l .inv .0,
       omega arith,
-      rw (add-one (l .i), take-suc-set (l .room) (l .i) filler h, l .inv .2) (replicate-append-replicate (l .i) 1 filler ∙ ap (λ (n : ℕ). replicate n filler) (add-one (l .i))),
+      rw (add-one (l .i), take-suc-set (l .room) (l .i) filler h, l .inv .2) (one-more (l .i)),
     )
 
 same-length : tie.Need-same-length Inv-loop μ-loop

@@ -17,7 +17,9 @@ use Rattle.console.proofs.hex.put_hex.Tie as tie
 next-digits : (l m : Line) (bytes : List ℕ) (i : ℕ) → i < length bytes → afterText l (hexByte (getD bytes i 0)) ≡ m
     → afterText m (hexText (drop (i + 1) bytes)) ≡ afterText l (hexText (drop i bytes))
 unfolding hexText
-next-digits l m bytes i h e = rw (add-one i, drop-cons bytes i 0 h) (sym (after-both l m (hexByte (getD bytes i 0)) (hexText (drop (suc i) bytes)) e refl))
+next-digits l m bytes i h e =
+    rw (add-one i, drop-cons bytes i 0 h)
+    (sym (after-both l m (hexByte (getD bytes i 0)) (hexText (drop (suc i) bytes)) e refl))
 
 abbrev Inv-loop : tie.InvT-loop
 Inv-loop line₀ at bytes to₀ i₀ line to i =
