@@ -1,10 +1,15 @@
 -- The lines that answer a call, by README, "Answers".
-use Prim.Native.Nat.{ℕ, _≤_}
+use Prim.Native.Nat.{ℕ, zero, suc, _+_, _*_, _/_, _%_, _≤_}
+use native.Mathlib.Nat.{div-add-mod', mod-lt}
 use native.Mathlib.Omega.{arith}
+use mathlib.Core.Path.{_≡_, refl}
+use mathlib.Core.Bool.{cond}
 use mathlib.Core.List.{List, [], _∷_, _++_}
-use lib.ListN.{length, length-append}
+use lib.Dec.{ltb}
+use lib.ListN.{length, take, drop, length-append, length-take}
+use lib.Seq.{take-all, take-add}
 use Rattle.network.specs.declared.Found.{Found}
-use Rattle.printing.specs.Printed.{wholeOf, amountOf, decimal, nextText, amperesText, letterText, decimal-length, next-length, amperes-length, letter-length}
+use Rattle.printing.specs.Printed.{wholeOf, amountOf, comma, decimal, nextText, amperesText, letterText, decimal-length, next-length, amperes-length, letter-length}
 use Rattle.printing.specs.Line.{room}
 use Rattle.reader.specs.File.{lf}
 
@@ -28,6 +33,49 @@ readingLine number row = decimal number ++ nextText row ++ (lf ∷ [])
 unfoldable pub foundLine : Found → List ℕ
 foundLine f = decimal (f .number) ++ amperesText (f .amperes) ++ letterText (f .verdict) ++ nextText (wholeOf (amountOf (f .verdict))) ++ (lf ∷ [])
 
+-- ---- the answer to `write`, of any length
+-- what a lent room is filled with: 0x55
+abbrev pub filler : ℕ
+filler = 85
+
+-- "lower-case hexadecimal digits": of half a byte
+unfoldable pub hexDigit : ℕ → ℕ
+hexDigit half = cond (ltb half 10) (48 + half) (87 + half)
+
+-- a byte, its high half first
+abbrev pub hexByte : ℕ → List ℕ
+hexByte b = hexDigit (b / 16) ∷ hexDigit (b % 16) ∷ []
+
+-- "HEX"
+unfoldable pub hexText : List ℕ → List ℕ
+hexText [] = []
+hexText (b ∷ bytes) = hexByte b ++ hexText bytes
+
+-- "number, length", and the comma before HEX
+unfoldable pub writtenHead : ℕ → ℕ → List ℕ
+writtenHead number size = decimal number ++ nextText size ++ (comma ∷ [])
+
+-- "number, length and HEX, the whole lent room"
+unfoldable pub writtenLine : ℕ → ℕ → List ℕ → List ℕ
+writtenLine number size lent = writtenHead number size ++ hexText lent ++ (lf ∷ [])
+
+-- how many bytes' digits fill a line
+abbrev pub chunk : ℕ
+chunk = 128
+
+-- how many chunks so many bytes have; the last may be empty
+abbrev pub chunkCount : ℕ → ℕ
+chunkCount size = size / chunk + 1
+
+-- the bytes of one of them, counted from 0
+unfoldable pub chunkOf : ℕ → List ℕ → List ℕ
+chunkOf k bytes = take chunk (drop (k * chunk) bytes)
+
+-- the digits of the first k chunks, as they are written one after the other
+unfoldable pub chunksText : ℕ → List ℕ → List ℕ
+chunksText zero bytes = []
+chunksText (suc k) bytes = chunksText k bytes ++ hexText (chunkOf k bytes)
+
 -- ---- each fits a line
 pub error-fits : (reason : List ℕ) → length reason ≤ 200 → length (errorLine reason) ≤ room
 unfolding errorLine
@@ -46,3 +94,36 @@ unfolding foundLine
 found-fits f =
     simp length-append
     (omega (arith, decimal-length (f .number), amperes-length (f .amperes), letter-length (f .verdict), next-length (wholeOf (amountOf (f .verdict)))))
+
+-- ---- a part of the answer to `write` fits a line, and its parts joined are the whole
+pub head-fits : (number size : ℕ) → length (writtenHead number size) ≤ room
+unfolding writtenHead
+head-fits number size = simp length-append (omega (arith, decimal-length number, next-length size))
+
+hex-length : (bytes : List ℕ) → length (hexText bytes) ≡ 2 * length bytes
+unfolding hexText
+hex-length [] = refl
+hex-length (b ∷ bytes) = omega (arith, hex-length bytes)
+
+pub chunk-fits : (k : ℕ) (bytes : List ℕ) → length (hexText (chunkOf k bytes)) ≤ room
+unfolding chunkOf
+chunk-fits k bytes = omega (arith, hex-length (chunkOf k bytes), length-take chunk (drop (k * chunk) bytes))
+
+hex-both : (a b : List ℕ) → hexText (a ++ b) ≡ hexText a ++ hexText b
+unfolding hexText
+hex-both [] b = refl
+hex-both (x ∷ a) b = rw (hex-both a b)
+
+first-chunks : (k : ℕ) (bytes : List ℕ) → chunksText k bytes ≡ hexText (take (k * chunk) bytes)
+unfolding chunksText chunkOf hexText
+first-chunks zero bytes = refl
+first-chunks (suc k) bytes =
+    let more : suc k * chunk ≡ k * chunk + chunk = omega arith in
+    rw (more, take-add (k * chunk) chunk bytes, hex-both, first-chunks k bytes)
+
+pub parts-joined : (number size : ℕ) (lent : List ℕ)
+    → writtenHead number size ++ chunksText (chunkCount (length lent)) lent ++ (lf ∷ []) ≡ writtenLine number size lent
+unfolding writtenLine
+parts-joined number size lent =
+    let n = length lent in
+    rw (first-chunks (chunkCount n) lent, take-all (chunkCount n * chunk) lent (omega (arith, div-add-mod' n chunk, mod-lt n {m = chunk} (omega arith))))

@@ -1,4 +1,5 @@
 // The calls. Each takes the study, what stands after its word, and gives the study after it.
+ghost use mathlib.Core.Path.{_≡_};
 use crate::answers::print_error;
 use crate::answers::print_found;
 use crate::answers::print_number;
@@ -6,7 +7,9 @@ use crate::answers::print_reading;
 use crate::hex::Decoded;
 use crate::hex::TEXT;
 use crate::hex::decode;
+use crate::hex::fill;
 use crate::hex::text_of;
+use crate::parts::print_written;
 use crate::words::after;
 use crate::words::begins;
 use crate::words::is;
@@ -95,6 +98,29 @@ fn make_read(s: Study, rest: &[u8], text: &mut [u8; TEXT]) -> Study {
     reading.study
 }
 
+// The whole room is printed, so that what the call keeps of it is seen too.
+fn write_into(s: Study, lent: &mut [u8]) {
+    fill(lent);
+    let done = writer::write(s, lent);
+    print_written(done.number, done.length, lent);
+}
+
+fn make_write(s: Study, rest: &[u8], text: &mut [u8]) -> Study
+    ensures { λ r. ⌜ r ≡ s ⌝ }
+{
+    let n = numbers_of(rest);
+    let v = n.values;
+    if takes(n, 1) {
+        let room = v[0] as usize;
+        if room <= text.len() {
+            write_into(s, &mut text[0..room]);
+        } else {
+            print_error(b"room");
+        }
+    }
+    s
+}
+
 // The study after the call that a line names.
 pub(crate) fn make_call(s: Study, line: &[u8], text: &mut [u8; TEXT]) -> Study {
     if begins(line, b"start,") {
@@ -114,6 +140,9 @@ pub(crate) fn make_call(s: Study, line: &[u8], text: &mut [u8; TEXT]) -> Study {
     }
     if begins(line, b"read,") {
         return make_read(s, after(line, 5), text);
+    }
+    if begins(line, b"write,") {
+        return make_write(s, after(line, 6), text);
     }
     print_error(b"unknown call");
     s

@@ -1,8 +1,14 @@
 // Text in hexadecimal digits.
-
+ghost use mathlib.Core.Path.{_≡_};
+ghost use Prim.Native.Nat.{_<_};
+ghost use lib.ListN.{length, replicate};
+ghost use Rattle.printing.specs.Line.{afterText};
+ghost use Rattle.console.specs.Answers.{filler, hexDigit, hexByte, hexText};
 use crate::input::part;
+use printing::LINE;
+use printing::put;
 
-// Room for the text of the longest line.
+// Room for the text of the longest line, and for what a call is lent.
 pub(crate) const TEXT: usize = 70_000;
 
 // How many bytes the digits give, unless they are not pairs of hexadecimal digits.
@@ -69,4 +75,46 @@ pub(crate) fn decode(digits: &[u8], text: &mut [u8; TEXT]) -> Decoded {
 // The bytes of the text.
 pub(crate) fn text_of(text: &[u8; TEXT], length: usize) -> &[u8] {
     part(text, length)
+}
+
+// Fills a room that is lent to a call, so that the bytes that the call keeps are seen to be kept.
+pub(crate) fn fill(room: &mut [u8])
+    ensures { λ _. ⌜ now (room .exit) ≡ replicate (length (now (room .entry))) filler ⌝ }
+{
+    let mut i: usize = 0;
+    while i < room.len() {
+        room[i] = 0x55;
+        i += 1;
+    }
+}
+
+// The digit of half a byte.
+fn digit_of(half: u8) -> u8
+    requires { ⌜ half < 16 ⌝ }
+    ensures { λ r. ⌜ r ≡ hexDigit half ⌝ }
+{
+    if half < 10 {
+        return b'0' + half;
+    }
+    87 + half
+}
+
+// Puts the two digits of a byte.
+fn put_byte(line: &mut [u8; LINE], at: usize, x: u8) -> usize
+    ensures { λ r. ⌜ afterText (now (line .entry), at) (hexByte x) ≡ (now (line .exit), r) ⌝ }
+{
+    put(line, at, &[digit_of(x / 16), digit_of(x % 16)])
+}
+
+// Puts the digits of each byte in turn.
+pub(crate) fn put_hex(line: &mut [u8; LINE], at: usize, bytes: &[u8]) -> usize
+    ensures { λ r. ⌜ afterText (now (line .entry), at) (hexText (now (bytes .entry))) ≡ (now (line .exit), r) ⌝ }
+{
+    let mut to = at;
+    let mut i: usize = 0;
+    while i < bytes.len() {
+        to = put_byte(line, to, bytes[i]);
+        i += 1;
+    }
+    to
 }

@@ -1,4 +1,6 @@
 // Lines of standard input, by way of a chunk of its bytes.
+ghost use mathlib.Core.Path.{_≡_};
+ghost use lib.ListN.{take};
 use libc::STDIN_FILENO;
 
 pub(crate) const CHUNK: usize = 4096;
@@ -110,7 +112,9 @@ pub(crate) fn read_line(
 }
 
 // The first bytes of a slice.
-pub(crate) fn part(bytes: &[u8], length: usize) -> &[u8] {
+pub(crate) fn part(bytes: &[u8], length: usize) -> &[u8]
+    ensures { λ r. ⌜ now r ≡ take length (now (bytes .entry)) ⌝ }
+{
     if length <= bytes.len() {
         return &bytes[0..length];
     }

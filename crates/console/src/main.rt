@@ -3,6 +3,7 @@ mod answers;
 mod calls;
 mod hex;
 mod input;
+mod parts;
 mod words;
 
 use answers::print_error;

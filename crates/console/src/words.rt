@@ -1,4 +1,6 @@
 // The word that a line begins with, and what follows it.
+ghost use mathlib.Core.Path.{_≡_};
+ghost use lib.ListN.{drop};
 
 pub(crate) fn begins(line: &[u8], word: &[u8]) -> bool {
     if line.len() < word.len() {
@@ -22,9 +24,12 @@ pub(crate) fn is(line: &[u8], word: &[u8]) -> bool {
 }
 
 // The line from a place on.
-pub(crate) fn after(line: &[u8], at: usize) -> &[u8] {
-    if at <= line.len() {
+pub(crate) fn after(line: &[u8], at: usize) -> &[u8]
+    ensures { λ r. ⌜ now r ≡ drop at (now (line .entry)) ⌝ }
+{
+    let end = line.len();
+    if at <= end {
         return &line[at..];
     }
-    line
+    &line[end..]
 }

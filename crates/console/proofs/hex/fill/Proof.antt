@@ -1,0 +1,64 @@
+-- `console::hex::fill` meets its contract. The invariant: the bytes that were passed are the filler. The measure is the number of bytes
+-- that are left. Assumes nothing.
+use mathlib.Core.Path.{_≡_, refl, sym, ap, _∙_}
+use mathlib.Core.List.{List, [], _∷_, _++_}
+use Prim.Native.Nat.{ℕ, _-_, _≤_, _<_}
+use native.Mathlib.Omega.{arith}
+use native.Mathlib.Numerals.{add-one}
+use lib.ListN.{length, take, replicate, length-set, replicate-append-replicate}
+use lib.Seq.{take-all, take-suc-set}
+use borrow.Author.Needs.{needs}
+use Rattle.console.specs.Answers.{filler}
+use Rattle.console.proofs.hex.fill.Statement.{statement}
+use Rattle.console.proofs.hex.fill.Tie as tie
+
+abbrev Inv-loop : tie.InvT-loop
+Inv-loop room₀ i₀ room i = (length room ≡ length room₀) × (i ≤ length room) × (take i room ≡ replicate i filler)
+
+abbrev μ-loop : tie.MeasureT-loop
+μ-loop room₀ i₀ room i = length room - i
+
+loop-holds : tie.Need-loop-holds Inv-loop μ-loop
+loop-holds c = (refl, omega arith, refl)
+
+slice-write-room : tie.Need-slice-write-room Inv-loop μ-loop
+slice-write-room c = search needs
+
+add-i : tie.Need-add-i Inv-loop μ-loop
+add-i c = search needs
+
+loop-less : tie.Need-loop-less Inv-loop μ-loop
+loop-less c = simp length-set (omega arith)
+
+loop-again : tie.Need-loop-again Inv-loop μ-loop
+loop-again c =
+    let l = c .before .loop in
+    let h : l .i < length (l .room) = omega arith in
+    let size = length-set (l .room) (l .i) filler in (
+      size ∙ l .inv .0,
+      omega arith,
+      rw (add-one (l .i), take-suc-set (l .room) (l .i) filler h, l .inv .2) (replicate-append-replicate (l .i) 1 filler ∙ ap (λ (n : ℕ). replicate n filler) (add-one (l .i))),
+    )
+
+same-length : tie.Need-same-length Inv-loop μ-loop
+same-length c = search needs
+
+returns : tie.Need-returns Inv-loop μ-loop
+returns c =
+    let l = c .before .loop in
+    let whole : l .i ≡ length (l .room) = omega arith in
+    sym (take-all (l .i) (l .room) (omega arith)) ∙ l .inv .2 ∙ ap (λ (n : ℕ). replicate n filler) (whole ∙ l .inv .0)
+
+pub fill-spec : {M : Type 1} → statement M
+fill-spec =
+    tie.close
+    (tie.spec
+    Inv-loop
+    μ-loop
+    loop-holds
+    slice-write-room
+    add-i
+    loop-less
+    loop-again
+    same-length
+    returns)
