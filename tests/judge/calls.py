@@ -35,6 +35,7 @@ NO_CALLS = [
     "write,",
     "write,x",
     "write,-1",
+    "write,00",
     "write,100,0",
     f"write,{MOST_ROOM + 1}",
     f"write,{GREATEST}",

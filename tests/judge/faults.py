@@ -500,6 +500,15 @@ class SevenDigitsWithAPoint(Study):
 
 
 @planted
+class NinesTakenForOneDigitMore(Study):
+    """The number of digits comes from a logarithm that is rounded: 9,999 counts as 10,000."""
+
+    def written_number(self, value):
+        digits = super().written_number(value)
+        return b"0" + digits if len(digits) >= 4 and set(digits) == set(b"9") else digits
+
+
+@planted
 class ToleranceAlwaysSix(Study):
     def text(self):
         return b"S,6" + super().text().removeprefix(b"S,%d" % self.tolerance)
@@ -535,6 +544,29 @@ class RefusedRecordWritten(StandIn):
         study = self.study
         more = study.sources + self.refused
         return Study(study.tolerance, study.buses, more, study.closed).write(lent)
+
+
+@planted
+class ReadTextWritten(StandIn):
+    """A study that was read is written with the very bytes that were read."""
+
+    def answer(self, line):
+        answer = super().answer(line)
+        if answer == "0,0":
+            self.study.text = lambda text=bytes.fromhex(line[5:]): text
+        return answer
+
+
+@planted
+class ClosedBeforeWritten(StandIn):
+    """While a study is open, the one closed before it is written."""
+
+    before = Study()
+
+    def write(self, lent):
+        if self.study.closed:
+            self.before = self.study
+        return self.before.write(lent)
 
 
 # The lent buffer
@@ -640,6 +672,15 @@ class MostRoomRefused(StandIn):
 
     def answer_write(self, room):
         return "error,room" if room == MOST_ROOM else super().answer_write(room)
+
+
+@planted
+class LastPartNotPrinted(StandIn):
+    """A room of whole parts of 4,096 bytes is printed without the last of them."""
+
+    def answer_write(self, room):
+        answer = super().answer_write(room)
+        return answer[:-8192] if room and room % 4096 == 0 else answer
 
 
 @planted

@@ -4,7 +4,8 @@ python3 tests/judge/run.py --program target/bin/noldveig --console target/bin/co
     --seed 1 --networks 200 --bytes 500 --calls 100 --writes 100
 
 The fixed set always runs; the seed adds drawn networks, broken texts, lists of
-calls, and studies that are written, read back and written again.  Give an empty --program or --console to leave that one out.
+calls, and studies that are written, read back and written again.  Give an
+empty --program or --console to leave that one out.
 """
 
 import argparse

@@ -96,6 +96,13 @@ def written_read():
     return found
 
 
+def written_rooms():
+    """Rooms beside every power of two, on an open and on a closed study: the console may print by parts."""
+    sizes = [2**power + beside for power in range(4, 17) for beside in (-1, 0, 1)]
+    every = writes([*sizes, MOST_ROOM - 1])
+    return [("start", 6), *every, ("read", SMALL), *every]
+
+
 def written_ends():
     """Each field at each end of its range, its longest number with it."""
     found = []
@@ -149,6 +156,7 @@ WRITTEN = [
     written_after_refusals,
     written_without_refused,
     written_read,
+    written_rooms,
     written_ends,
     written_numbers,
     written_full_tables,
@@ -224,7 +232,10 @@ def told_apart(plan, first, back):
 
 
 def fixed_writings():
-    """Studies made by calls, so that what reading makes of their text is another way to them."""
+    """Studies made by calls, so that what reading makes of their text is another way to them.
+
+    Of the networks drawn once the small ones: the full tables stand for the others.
+    """
     found = []
 
     def plan(name, tolerance, rows):
@@ -236,7 +247,8 @@ def fixed_writings():
     plan("motor at low voltage, 10", 10, LOW_VOLTAGE)
     plan("full tables", 10, longest_rows())
     for name, draft in drawn_once():
-        plan(name, draft.tolerance, draft.rows)
+        if len(draft.rows) <= 50:
+            plan(name, draft.tolerance, draft.rows)
     return found
 
 
