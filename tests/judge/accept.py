@@ -1,8 +1,9 @@
-"""Which calls and which files are accepted, with number and row.
+"""Which calls and which files are accepted, with number and row; a study as text.
 
 Written from document 01 alone ("The study", "The file" and the two lists of
-grounds).  A Study is never changed: each call gives its number and the study
-after it, so that a refused call gives back the study it was made on.
+grounds) and from order 1 of document 02.  A Study is never changed: each call
+gives its number and the study after it, so that a refused call gives back the
+study it was made on.
 """
 
 from exact import (
@@ -21,6 +22,7 @@ BUSES, SOURCES = 64, 256
 BRANCHES, TRANSFORMERS = 18, 4
 TEXT_BYTES = 65536
 FORM = 16
+NOT_CLOSED, TOO_SHORT = 22, 30
 
 
 def within(value, low, high):
@@ -74,8 +76,17 @@ class Study:
     def query(self, bus):
         """The number alone; the amperes of an accepted query are judged elsewhere."""
         if not self.closed:
-            return 22
+            return NOT_CLOSED
         return 15 if bus >= len(self.buses) else 0
+
+    def write(self, lent):
+        """Number, length and the lent bytes after the call; it does not change the study."""
+        if not self.closed:
+            return NOT_CLOSED, 0, lent
+        text = self.text()
+        if len(text) > len(lent):
+            return TOO_SHORT, 0, lent
+        return 0, len(text), text + lent[len(text) :]
 
     def read(self, text):
         """Number, row and study of a file; the study before it plays no part."""
@@ -202,6 +213,22 @@ class Study:
             return None
         value = int(field)
         return value if value < 2**32 else None
+
+    # The study as text
+
+    def text(self):
+        """The start, all buses, all sources, an end after every row."""
+        rows = [("S", (self.tolerance,))]
+        rows += [("B", bus) for bus in self.buses]
+        rows += [("P", source) for source in self.sources]
+        return b"".join(self.written_row(*row) for row in rows)
+
+    def written_row(self, letter, numbers):
+        fields = [letter.encode(), *map(self.written_number, numbers)]
+        return b",".join(fields) + b"\r\n"
+
+    def written_number(self, value):
+        return b"%d" % value
 
 
 def first_true(grounds):

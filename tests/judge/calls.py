@@ -1,13 +1,17 @@
 """Lists of single calls, fixed and drawn, with refused ones among them.
 
 A call is a tuple: ("start", tolerance), ("bus", ten numbers), ("source", seven
-numbers), ("close",), ("query", bus), ("read", bytes) or ("other", line), the
-last for a line that is no call at all.
+numbers), ("close",), ("query", bus), ("write", room), ("read", bytes) or
+("other", line), the last for a line that is no call at all.
 """
 
 from networks import amount, any_network, random_tree
 from refusals import BASE, GREATEST, chain_rows, fault_subsets, lone_bus
 from texts import SMALL, TEXT, spoil
+
+# The console lends a writing so many bytes at most, each filled so that a changed one shows.
+MOST_ROOM = 70_000
+FILL = b"\x55"
 
 NO_CALLS = [
     "hello",
@@ -27,6 +31,16 @@ NO_CALLS = [
     "query,x",
     "query,0,0",
     "query,4294967296",
+    "write",
+    "write,",
+    "write,x",
+    "write,-1",
+    "write,00",
+    "write,100,0",
+    f"write,{MOST_ROOM + 1}",
+    f"write,{GREATEST}",
+    "write,4294967296",
+    "Write,100",
     "read",
     "read,0",
     "read,0g",
@@ -54,6 +68,20 @@ def line_of(call):
     if name in ("bus", "source"):
         rest = rest[0]
     return ",".join([name, *map(str, rest)])
+
+
+def carried_out(study, call):
+    """What a call that may change a study gives, number first, and the study after it."""
+    name, *rest = call
+    methods = {
+        "start": study.start,
+        "bus": study.add_bus,
+        "source": study.add_source,
+        "close": study.close,
+        "read": study.read,
+    }
+    *given, after = methods[name](*rest)
+    return given, after
 
 
 # c cancels for a feeder alone; beside a motor the machines' part tells the tolerances apart
@@ -145,7 +173,7 @@ def other_lines():
 
 def at_once():
     """Calls before any start: an empty open study of tolerance 6."""
-    return [("query", 0), ("close",), *BUILD_LOW]
+    return [("query", 0), ("write", 0), ("write", 100), ("close",), *BUILD_LOW]
 
 
 FIXED = [states, refused_starts, files_between, full_tables, companies, depths, other_lines]

@@ -16,6 +16,7 @@ from networks import any_network, border_ratings, with_more_converters, with_rat
 from networks import without_converters, write_file
 from refusals import near_misses
 from texts import greatest_numbers, meant_texts, spoil, truncations
+from writes import WRITTEN, back_calls, drawn_writing, first_calls, fixed_writings, text_of, told_apart
 
 # The console takes lines of at most so many bytes; a longer text goes to the program alone.
 LINE_BYTES = 140_000
@@ -60,6 +61,7 @@ class Unit(NamedTuple):
     networks: list = []
     program_texts: list = []
     alone: bool = False
+    writings: list = []
 
 
 def file_case(name, text):
@@ -110,6 +112,8 @@ def fixed_units():
     lists.append(Case("calls: states, lines ended by CRLF", states(), None, "\r"))
     units = [Unit(lists)]
     units.append(Unit([Case("calls: at_once", at_once())], alone=True))
+    units.append(Unit([Case(f"calls: {make.__name__}", make()) for make in WRITTEN]))
+    units.append(Unit([], writings=fixed_writings()))
     for i, part in enumerate(chunks(texts, 100)):
         short = [text for text in part if len(line_of(("read", text[1]))) <= LINE_BYTES]
         long = [text for text in part if text not in short]
@@ -121,10 +125,10 @@ def fixed_units():
     return units + [Unit([], part) for part in chunks(plans, 8)]
 
 
-def drawn_units(seed, networks, texts, lists):
-    """Arguments of drawn_unit for so many networks, broken texts and lists of calls."""
+def drawn_units(seed, networks, texts, lists, writings):
+    """Arguments of drawn_unit for so many networks, broken texts, lists of calls and writings."""
     found = []
-    kinds = ("networks", networks, 8), ("bytes", texts, 100), ("calls", lists, 20)
+    kinds = ("networks", networks, 8), ("bytes", texts, 100), ("calls", lists, 20), ("writes", writings, 20)
     for kind, count, size in kinds:
         found += [(kind, seed, part) for part in chunks(range(count), size)]
     return found
@@ -137,6 +141,8 @@ def drawn_unit(kind, seed, places):
         return Unit([], [drawn_plan(*draw) for draw in draws])
     if kind == "calls":
         return Unit([Case(name, drawn_calls(rng)) for name, _, rng in draws])
+    if kind == "writes":
+        return Unit([], writings=[drawn_writing(name, rng) for name, _, rng in draws])
     texts = [(name, spoil(rng, any_network(rng)[1].file())) for name, _, rng in draws]
     return Unit([file_case(*text) for text in texts], [], texts[::20])
 
@@ -184,6 +190,7 @@ def run_unit(runner, unit, bench=None):
             amperes = given_amperes(case, answers.get(case.name, []))
             borders += border_cases(plan, amperes) if amperes else []
         run_cases(runner, borders, outcome)
+        run_writings(runner, unit.writings, outcome)
     if runner.program:
         texts = [(plan.name, plan.text) for plan in unit.networks if plan.by_program]
         for name, text in unit.program_texts + texts:
@@ -211,6 +218,30 @@ def run_cases(runner, cases, outcome, alone=False):
         found[case.name] = own
         note_case(case, own, outcome)
     return found
+
+
+def run_writings(runner, plans, outcome):
+    """Each study written, read back from the very bytes that the console showed, and written again.
+
+    Where there is no such text or an answer is missing, the case before has failed.
+    """
+    firsts = [Case(plan.name, first_calls(plan)) for plan in plans]
+    answers = run_cases(runner, firsts, outcome)
+    backs = [back_case(plan, case, answers[case.name]) for plan, case in zip(plans, firsts)]
+    answers |= run_cases(runner, [case for case in backs if case], outcome)
+    for plan, case in zip(plans, backs):
+        if case and len(answers[case.name]) == len(case.calls):
+            reason = told_apart(plan, answers[plan.name], answers[case.name])
+            outcome.note(f"{plan.name}, the same after reading back", reason, show_text(case.text))
+            outcome.tally.read_back += not reason
+
+
+def back_case(plan, case, answers):
+    """The text of the last write read back, or None where that write gave none."""
+    text = text_of(answers[-1]) if len(answers) == len(case.calls) else None
+    if text is None:
+        return None
+    return Case(f"{plan.name}, read back", back_calls(plan, text), text)
 
 
 def note_case(case, answers, outcome):
@@ -249,5 +280,5 @@ def show_case(case, answers, place):
         return show_text(case.text)
     shown = []
     for call, answer in list(zip(case.calls, answers))[: place + 1]:
-        shown.append(f"{line_of(call)[:2000]} -> {answer}")
+        shown.append(f"{line_of(call)[:2000]} -> {answer[:2000]}")
     return "\n".join(shown)

@@ -2,8 +2,10 @@
 
 import re
 from collections import Counter
+from os.path import commonprefix
 
 from accept import Study
+from calls import FILL, carried_out
 from exact import CONVERTER
 from judge import MACHINES_NEAR, NO_AMPERES, Amperes, Bench, verdict_reasons
 
@@ -19,6 +21,8 @@ class Tally:
         self.buses = 0
         self.verdicts = Counter()
         self.refused = Counter()
+        self.writes = Counter()
+        self.read_back = 0
         self.worst = {}
 
     def note(self, figure, value):
@@ -39,6 +43,8 @@ class Tally:
         self.buses += other.buses
         self.verdicts += other.verdicts
         self.refused += other.refused
+        self.writes += other.writes
+        self.read_back += other.read_back
         for figure, value in other.worst.items():
             self.note(figure, value)
 
@@ -48,6 +54,19 @@ def numbers_of(fields):
     if not all(NUMBER.fullmatch(field) for field in fields):
         return None
     return [int(field) for field in fields]
+
+
+def difference(answer, due):
+    """Where the answer to a write first leaves the due one; the whole may have 140,000 digits."""
+    given, wanted = answer.split(","), due.split(",")
+    if len(given) != len(wanted):
+        return f"{answer[:60]!r} is no answer to a write"
+    for name, one, other in zip(("number", "length"), given, wanted):
+        if one != other:
+            return f"{name} {one[:60]!r} where {other} is due"
+    at = len(commonprefix([given[2], wanted[2]])) // 2
+    one, other = (digits[2 * at : 2 * at + 20] for digits in (given[2], wanted[2]))
+    return f"{one!r} from byte {at} on where {other!r} is due"
 
 
 class Checker:
@@ -78,20 +97,25 @@ class Checker:
         """The study after a call, and what is wrong with the answer."""
         name, *rest = call
         if name == "other":
-            return study, "" if answer.startswith("error,") else f"{answer!r} where error is due"
+            return study, "" if answer.startswith("error,") else f"{answer[:60]!r} where error is due"
         if name == "query":
             return study, self.query_reason(study, rest[0], answer)
-        if name == "read":
-            number, row, study = study.read(rest[0])
-            due = f"{number},{row}"
-        else:
-            method = {"bus": study.add_bus, "source": study.add_source}.get(name)
-            method = method or getattr(study, name)
-            number, study = method(*rest)
-            due = str(number)
+        if name == "write":
+            return study, self.write_reason(study, rest[0], answer)
+        given, study = carried_out(study, call)
+        if given[0]:
+            self.tally.refused[given[0]] += 1
+        due = ",".join(map(str, given))
+        return study, "" if answer == due else f"{answer!r} where {due!r} is due"
+
+    def write_reason(self, study, room, answer):
+        """The answer shows the whole lent room, so that a byte changed beyond the text is seen."""
+        number, length, lent = study.write(FILL * room)
+        self.tally.writes[number] += 1
         if number:
             self.tally.refused[number] += 1
-        return study, "" if answer == due else f"{answer!r} where {due!r} is due"
+        due = f"{number},{length},{lent.hex()}"
+        return "" if answer == due else difference(answer, due)
 
     def query_reason(self, study, bus, answer):
         number = study.query(bus)

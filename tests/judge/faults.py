@@ -3,11 +3,13 @@
 from fractions import Fraction
 
 from accept import Study, first_true, near_nominal, within
+from calls import FILL, MOST_ROOM
 from exact import (
     CONVERTER,
     TRANSFORMER,
     BusRecord,
     Network,
+    SourceRecord,
     behind,
     c_hundredths,
     f_millionths,
@@ -405,3 +407,372 @@ class FormTriedBehindRecord(Study):
 class LongTextReadInPart(Study):
     def read(self, text):
         return super().read(text[:65536])
+
+
+# The text that is written
+
+
+@planted
+class SourcesWrittenFirst(Study):
+    def text(self):
+        rows = super().text().splitlines(keepends=True)
+        return b"".join(sorted(rows, key=lambda row: b"SPB".index(row[:1])))
+
+
+@planted
+class RowsWrittenAsAdded(Study):
+    """Buses and sources in the mixture in which they were added."""
+
+    added = ()
+
+    def add_bus(self, fields):
+        return self.noted(super().add_bus(fields), ("B", tuple(fields)))
+
+    def add_source(self, fields):
+        return self.noted(super().add_source(fields), ("P", tuple(fields)))
+
+    def close(self):
+        return self.noted(super().close())
+
+    def noted(self, outcome, *row):
+        number, after = outcome
+        if not number:
+            after.added = self.added + row
+        return outcome
+
+    def text(self):
+        rows = (("S", (self.tolerance,)), *self.added)
+        return b"".join(self.written_row(*row) for row in rows)
+
+
+@planted
+class LineFeedAloneWritten(Study):
+    def written_row(self, letter, numbers):
+        return super().written_row(letter, numbers).replace(b"\r", b"")
+
+
+@planted
+class LastEndLeftOut(Study):
+    """As a file may have it, and a text that is written may not."""
+
+    def text(self):
+        return super().text()[:-2]
+
+
+@planted
+class CommaAtRowEnd(Study):
+    def written_row(self, letter, numbers):
+        return super().written_row(letter, numbers).replace(b"\r", b",\r")
+
+
+@planted
+class LeadingZeroWritten(Study):
+    def written_number(self, value):
+        return b"%02d" % value
+
+
+@planted
+class NumbersPadded(Study):
+    def written_number(self, value):
+        return b"%2d" % value
+
+
+@planted
+class UnusedFieldsEmpty(Study):
+    def written_number(self, value):
+        return b"%d" % value if value else b""
+
+
+@planted
+class NinthDigitLost(Study):
+    """Only a feeder's kVA has nine digits, and only where it is 100,000,000."""
+
+    def written_number(self, value):
+        return super().written_number(value)[-8:]
+
+
+@planted
+class SevenDigitsWithAPoint(Study):
+    """Only ratings and kVA from 1,000,000 on are written otherwise."""
+
+    def written_number(self, value):
+        return b"%.6g" % value
+
+
+@planted
+class NinesTakenForOneDigitMore(Study):
+    """The number of digits comes from a logarithm that is rounded: 9,999 counts as 10,000."""
+
+    def written_number(self, value):
+        digits = super().written_number(value)
+        return b"0" + digits if len(digits) >= 4 and set(digits) == set(b"9") else digits
+
+
+@planted
+class ToleranceAlwaysSix(Study):
+    def text(self):
+        return b"S,6" + super().text().removeprefix(b"S,%d" % self.tolerance)
+
+
+@planted
+class FullTableOfBusesCut(Study):
+    def text(self):
+        return Study(self.tolerance, self.buses[:63], self.sources).text()
+
+
+@planted
+class FullTableOfSourcesCut(Study):
+    def text(self):
+        return Study(self.tolerance, self.buses, self.sources[:255]).text()
+
+
+@planted
+class RefusedRecordWritten(StandIn):
+    """A source refused for its fields stands in the text all the same."""
+
+    refused = ()
+
+    def answer_call(self, name, numbers):
+        answer = super().answer_call(name, numbers)
+        if name == "start":
+            self.refused = ()
+        if name == "source" and answer == "12":
+            self.refused += (SourceRecord(*numbers),)
+        return answer
+
+    def write(self, lent):
+        study = self.study
+        more = study.sources + self.refused
+        return Study(study.tolerance, study.buses, more, study.closed).write(lent)
+
+
+@planted
+class ReadTextWritten(StandIn):
+    """A study that was read is written with the very bytes that were read."""
+
+    def answer(self, line):
+        answer = super().answer(line)
+        if answer == "0,0":
+            self.study.text = lambda text=bytes.fromhex(line[5:]): text
+        return answer
+
+
+@planted
+class ClosedBeforeWritten(StandIn):
+    """While a study is open, the one closed before it is written."""
+
+    before = Study()
+
+    def write(self, lent):
+        if self.study.closed:
+            self.before = self.study
+        return self.before.write(lent)
+
+
+# The lent buffer
+
+
+@planted
+class RoomTriedBeforeState(Study):
+    """30 given before 22."""
+
+    def write(self, lent):
+        return (30, 0, lent) if len(self.text()) > len(lent) else super().write(lent)
+
+
+@planted
+class LengthOfRoomReported(Study):
+    def write(self, lent):
+        number, length, after = super().write(lent)
+        return number, 0 if number else len(lent), after
+
+
+@planted
+class NeededLengthReported(Study):
+    """A room too short is refused with the length that would do, and 0 is due."""
+
+    def write(self, lent):
+        number, length, after = super().write(lent)
+        return number, len(self.text()) if number == 30 else length, after
+
+
+@planted
+class ShortRoomFilled(Study):
+    """Refused, and written as far as the room goes."""
+
+    def write(self, lent):
+        number, length, after = super().write(lent)
+        return number, length, self.text()[: len(lent)] if number == 30 else after
+
+
+@planted
+class ShortRoomCleared(Study):
+    def write(self, lent):
+        number, length, after = super().write(lent)
+        return number, length, bytes(len(lent)) if number == 30 else after
+
+
+@planted
+class OpenStudyWritten(Study):
+    """Refused with 22, and written all the same."""
+
+    def write(self, lent):
+        number, length, after = super().write(lent)
+        text = self.text()[: len(lent)]
+        return number, length, text + lent[len(text) :] if number == 22 else after
+
+
+@planted
+class BytesBeyondCleared(Study):
+    def write(self, lent):
+        number, length, after = super().write(lent)
+        return number, length, after if number else after[:length] + bytes(len(lent) - length)
+
+
+@planted
+class NulBehindText(Study):
+    def write(self, lent):
+        number, length, after = super().write(lent)
+        room = not number and length < len(lent)
+        return number, length, after[:length] + b"\0" + after[length + 1 :] if room else after
+
+
+@planted
+class ExactRoomRefused(Study):
+    def write(self, lent):
+        given = super().write(lent)
+        return (30, 0, lent) if given[:2] == (0, len(lent)) else given
+
+
+@planted
+class OneTooShortAccepted(Study):
+    """The last byte of the text finds no place."""
+
+    def write(self, lent):
+        given = super().write(lent)
+        text = self.text()
+        short = given[0] == 30 and len(text) == len(lent) + 1
+        return (0, len(text), text[:-1]) if short else given
+
+
+@planted
+class MostRoomExceeded(StandIn):
+    """The console lends one byte more than it should."""
+
+    def answer_write(self, room):
+        if room != MOST_ROOM + 1:
+            return super().answer_write(room)
+        number, length, lent = self.write(FILL * room)
+        return f"{number},{length},{lent.hex()}"
+
+
+@planted
+class MostRoomRefused(StandIn):
+    """The console lends one byte less than it should."""
+
+    def answer_write(self, room):
+        return "error,room" if room == MOST_ROOM else super().answer_write(room)
+
+
+@planted
+class LastPartNotPrinted(StandIn):
+    """A room of whole parts of 4,096 bytes is printed without the last of them."""
+
+    def answer_write(self, room):
+        answer = super().answer_write(room)
+        return answer[:-8192] if room and room % 4096 == 0 else answer
+
+
+@planted
+class CapitalDigits(StandIn):
+    def answer_write(self, room):
+        answer = super().answer_write(room)
+        return answer if answer.startswith("error") else answer.upper()
+
+
+# The study after a write
+
+
+@planted
+class WriteOpensStudy(StandIn):
+    def write(self, lent):
+        given = super().write(lent)
+        if given[0] == 0:
+            self.study = Study(self.study.tolerance, self.study.buses, self.study.sources)
+        return given
+
+
+@planted
+class RefusedWriteClosesStudy(StandIn):
+    def write(self, lent):
+        given = super().write(lent)
+        if given[0] == 22:
+            self.study = self.study.close()[1]
+        return given
+
+
+@planted
+class WriteDropsSource(StandIn):
+    """An accepted write takes the last source away, save a feeder."""
+
+    def write(self, lent):
+        given = super().write(lent)
+        if given[0] == 0:
+            kept = self.study.sources[:1] + self.study.sources[1:-1]
+            self.study = Study(self.study.tolerance, self.study.buses, kept, True)
+        return given
+
+
+@planted
+class WriteLeavesToleranceSix(StandIn):
+    def write(self, lent):
+        given = super().write(lent)
+        if given[0] == 0:
+            self.study = Study(6, self.study.buses, self.study.sources, True)
+        return given
+
+
+@planted
+class ShortRoomEmptiesStudy(StandIn):
+    """A write refused with 30 leaves what a refused start leaves."""
+
+    def write(self, lent):
+        given = super().write(lent)
+        if given[0] == 30:
+            self.study = Study()
+        return given
+
+
+@planted
+class WriteWidensConverters(StandIn):
+    """Behind an accepted write other bounds, right in themselves, until the next start."""
+
+    wider = False
+
+    def answer_call(self, name, numbers):
+        answer = super().answer_call(name, numbers)
+        if name in ("start", "write"):
+            self.wider = name == "write" and answer.startswith("0,")
+        return answer
+
+    def amperes(self, study, bus):
+        given = super().amperes(study, bus)
+        more = self.wider and given.converters_upper > 0
+        return given._replace(converters_upper=given.converters_upper + more)
+
+
+@planted
+class ReadingWidensConverters(StandIn):
+    """A study that was read gets other bounds, right in themselves, than one made by calls."""
+
+    wider = False
+
+    def answer(self, line):
+        if line.startswith(("start", "read")):
+            self.wider = line.startswith("read")
+        return super().answer(line)
+
+    def amperes(self, study, bus):
+        given = super().amperes(study, bus)
+        more = self.wider and given.converters_upper > 0
+        return given._replace(converters_upper=given.converters_upper + more)

@@ -13,11 +13,12 @@ import sys
 from math import isqrt
 
 from accept import Study
+from calls import FILL, MOST_ROOM
 from exact import Network, peak_thousandths
 from judge import NO_AMPERES, Amperes, Bench, verdict
 
-CALL = re.compile(r"(start|bus|source|close|query)((?:,(?:0|[1-9][0-9]{0,9}))*)")
-COUNTS = {"start": 1, "bus": 10, "source": 7, "close": 0, "query": 1}
+CALL = re.compile(r"(start|bus|source|close|query|write)((?:,(?:0|[1-9][0-9]{0,9}))*)")
+COUNTS = {"start": 1, "bus": 10, "source": 7, "close": 0, "query": 1, "write": 1}
 READ = re.compile(r"read,((?:[0-9a-fA-F]{2})*)")
 TABLE = [peak_thousandths(i) for i in range(231)]
 
@@ -107,6 +108,8 @@ class StandIn:
     def answer_call(self, name, numbers):
         if name == "query":
             return self.answer_query(*numbers)
+        if name == "write":
+            return self.answer_write(*numbers)
         if name == "close":
             number, self.study = self.study.close()
         elif name == "start":
@@ -124,6 +127,15 @@ class StandIn:
             amperes = self.amperes(self.study, b)
             letter, margin = self.verdict(amperes, self.study.buses[b])
         return ",".join(map(str, (number, *amperes, letter, margin)))
+
+    def answer_write(self, room):
+        if room > MOST_ROOM:
+            return "error,room"
+        number, length, lent = self.write(FILL * room)
+        return f"{number},{length},{lent.hex()}"
+
+    def write(self, lent):
+        return self.study.write(lent)
 
     def console(self, lines):
         return [self.answer(line) for line in lines]

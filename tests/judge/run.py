@@ -1,10 +1,11 @@
 """Run the program and the console against the exact judge.
 
 python3 tests/judge/run.py --program target/bin/noldveig --console target/bin/console
-    --seed 1 --networks 200 --bytes 500 --calls 100
+    --seed 1 --networks 200 --bytes 500 --calls 100 --writes 100
 
-The fixed set always runs; the seed adds drawn networks, broken texts and lists
-of calls.  Give an empty --program or --console to leave that one out.
+The fixed set always runs; the seed adds drawn networks, broken texts, lists of
+calls, and studies that are written, read back and written again.  Give an
+empty --program or --console to leave that one out.
 """
 
 import argparse
@@ -93,6 +94,8 @@ def report(tally):
     print(f"verdicts: {letters}")
     grounds = ", ".join(f"{number}: {count}" for number, count in sorted(tally.refused.items()))
     print(f"refused by ground: {grounds}")
+    writes = ", ".join(f"{number}: {count}" for number, count in sorted(tally.writes.items()))
+    print(f"writes by number: {writes}; read back and the same: {tally.read_back}")
     for figure, meaning in (
         ("width", "widest pair against its allowance of 2 A and a thousandth"),
         ("peak", "peak farthest above the least whole one, against 2 % and 4 A"),
@@ -118,6 +121,7 @@ def main(arguments=None):
     parser.add_argument("--networks", type=int, default=100)
     parser.add_argument("--bytes", type=int, default=300)
     parser.add_argument("--calls", type=int, default=60)
+    parser.add_argument("--writes", type=int, default=60)
     parser.add_argument("--jobs", type=int, default=1)
     options = parser.parse_args(arguments)
     for command in (options.program, options.console):
@@ -126,7 +130,8 @@ def main(arguments=None):
     runner = Commands(options.program, options.console)
     begun = time.monotonic()
     units = fixed_units()
-    units += drawn_units(options.seed, options.networks, options.bytes, options.calls)
+    drawn = options.networks, options.bytes, options.calls, options.writes
+    units += drawn_units(options.seed, *drawn)
     tally, passed, failed = Tally(), 0, 0
     for unit_passed, failures, unit_tally in outcomes(runner, units, options.jobs):
         tally.add(unit_tally)

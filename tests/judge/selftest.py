@@ -1,8 +1,9 @@
 """Tests of the judge itself.
 
 Document 01's worked points, the sweeps against the plain definitions, the
-acceptance rules against meant numbers, and planted faults that the fixed set
-has to find.  Nothing of the product is run.
+acceptance rules against meant numbers, a study's text against one typed by
+hand, and planted faults that the fixed set has to find.  Nothing of the
+product is run.
 """
 
 import sys
@@ -11,7 +12,7 @@ from fractions import Fraction
 from random import Random
 
 from accept import Study
-from calls import drawn_calls
+from calls import as_calls, drawn_calls, line_of
 from cases import drawn_unit, fixed_units, run_unit
 from exact import f_millionths, peak_thousandths, series, sine, transformer_ux
 from faults import FAULTS
@@ -20,9 +21,11 @@ from judge import Amperes, Bench, peak_reasons, verdict
 from networks import FAMILIES, any_network, crowd, full_tree, random_tree
 from plain import PlainNetwork
 from reference import InProcess, StandIn
-from refusals import chain_rows, lone_bus, near_misses
+from refusals import BASE, chain_rows, lone_bus, near_misses
 from run import Commands
 from texts import meant_texts
+from writes import WRITTEN, back_calls, first_calls, fixed_writings, longest_rows
+from writes import study_after, text_of, told_apart
 
 BENCH = Bench()
 
@@ -164,6 +167,66 @@ def meant_numbers(tests):
             tests.true(f"{meant.name}: empty study", empty)
 
 
+BASE_TEXT = (
+    b"S,10\r\n"
+    b"B,0,20000,0,0,0,0,0,0,20000,60000\r\n"
+    b"B,0,20000,1,100,300,1000,2,0,15000,60000\r\n"
+    b"B,1,400,2,20000,400,630,6000,1000,30000,70000\r\n"
+    b"P,1,0,500000,10,0,0,0\r\n"
+    b"P,2,2,400,500,15000,10,90\r\n"
+    b"P,3,2,400,100,50,42,0\r\n"
+    b"P,4,1,1000,150,0,0,0\r\n"
+)
+
+
+def written_by_hand(tests):
+    """The base's text typed out, in rooms beside its length."""
+    opened = study_after([("start", 10), *as_calls(BASE)])
+    closed = opened.close()[1]
+    tests.same("text of the base", closed.text(), BASE_TEXT)
+    size = len(BASE_TEXT)
+    for room, due in (
+        (0, (30, 0, b"")),
+        (size - 1, (30, 0, b"U" * (size - 1))),
+        (size, (0, size, BASE_TEXT)),
+        (size + 3, (0, size, BASE_TEXT + b"UUU")),
+    ):
+        tests.same(f"base written in {room} bytes", closed.write(b"U" * room), due)
+        tests.same(f"base open, {room} bytes", opened.write(b"U" * room), (22, 0, b"U" * room))
+
+
+def written_and_read(tests):
+    """Reading a text gives the study back, so no two studies have the same one."""
+    longest = study_after([("start", 10), *as_calls(longest_rows()), ("close",)])
+    studies = [longest] + [study_of(any_network(Random(n))[1]) for n in range(60)]
+    studies += [Study().read(meant.text)[2] for meant in near_misses() if meant.number == 0]
+    for n, study in enumerate(studies):
+        number, row, again = Study().read(study.text())
+        tests.same(f"study {n} read back", (number, row, vars(again)), (0, 0, vars(study)))
+        tests.true(f"study {n} no longer than the longest", len(study.text()) <= len(longest.text()))
+    print(f"longest text: {len(longest.text())} bytes")
+
+
+def answers_told_apart(tests):
+    """Answers that differ in one place, each of which may be right by itself."""
+    plan = fixed_writings()[0]
+    first = StandIn().console(line_of(call) for call in first_calls(plan))
+    back = StandIn().console(line_of(call) for call in back_calls(plan, text_of(first[-1])))
+    tests.same("nothing told apart", told_apart(plan, first, back), "")
+    asked, written = len(plan.made), first[-1]
+    other = first[asked].replace(",C,", ",W,") + "0"
+    changed = written.replace(b"S,6".hex(), b"S,8".hex())
+    for name, one, two in (
+        ("before a write", first[:asked] + [other] + first[asked + 1 :], back),
+        ("behind a write", first[:-8] + [other] + first[-7:], back),
+        ("read back", first, back[:2] + [other] + back[3:]),
+        ("text", first, back[:-1] + [changed]),
+        ("length beyond the room", first, back[:-1] + [written.replace("0,", "0,1", 1)]),
+        ("no text", first, back[:-1] + ["30,0,"]),
+    ):
+        tests.true(f"told apart: {name}", told_apart(plan, one, two))
+
+
 def refused_calls(tests):
     """A refused addition or closing gives back the very study it was made on."""
     for n in range(20):
@@ -258,25 +321,27 @@ def by_processes(tests):
     here = __file__.rpartition("/")[0] or "."
     commands = [f"{sys.executable} {here}/reference.py {role}" for role in ("program", "console")]
     units = fixed_units()
-    for unit in (units[0], units[1], units[5], units[-1]):
+    for unit in (*units[:3], units[5], units[-1], ("writes", 2, range(3))):
         outcome = run_unit(Commands(*commands), unit, BENCH)
         tests.true("stand-in by processes", outcome.passed and not outcome.failures)
-    outcome = run_unit(Commands("true", "true"), units[5], BENCH)
-    tests.true("silent programs", outcome.failures and not outcome.passed)
+    for unit in (units[5], ("writes", 2, range(3))):
+        outcome = run_unit(Commands("true", "true"), unit, BENCH)
+        tests.true("silent programs", outcome.failures and not outcome.passed)
 
 
 def planted_faults(tests):
     """Every planted fault is found by the fixed set; the stand-in without one is not blamed."""
     units = fixed_units()
     drawn = [drawn_unit("bytes", 1, range(50)), drawn_unit("calls", 1, range(5))]
-    refused = set()
+    drawn.append(drawn_unit("writes", 1, range(20)))
+    refused, failing = set(), set()
     for unit in units + drawn:
         outcome = run_unit(InProcess(StandIn), unit, BENCH)
         refused |= set(outcome.tally.refused)
         for failure in outcome.failures:
             print(f"{failure.name}: {failure.reason}")
         tests.true("no fault planted", outcome.passed and not outcome.failures)
-    tests.same("grounds met", refused, set(range(1, 17)) | set(range(21, 26)))
+    tests.same("grounds met", refused, set(range(1, 17)) | set(range(21, 26)) | {30})
     for name, stand_in in FAULTS.items():
         found = None
         for unit in units:
@@ -285,7 +350,10 @@ def planted_faults(tests):
                 break
         tests.true(f"planted fault: {name}", found)
         if found:
+            failing |= {failure.name for failure in found}
             print(f"planted fault: {name}; found by: {found[0].name}; {len(found)} in its unit")
+    for make in WRITTEN:
+        tests.true(f"some fault fails {make.__name__}", f"calls: {make.__name__}" in failing)
 
 
 def main():
@@ -296,6 +364,9 @@ def main():
     against_plain(tests)
     against_floats(tests)
     meant_numbers(tests)
+    written_by_hand(tests)
+    written_and_read(tests)
+    answers_told_apart(tests)
     refused_calls(tests)
     judge_borders(tests)
     each_table_entry(tests)
