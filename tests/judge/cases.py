@@ -16,7 +16,8 @@ from networks import any_network, border_ratings, with_more_converters, with_rat
 from networks import without_converters, write_file
 from refusals import near_misses
 from texts import greatest_numbers, meant_texts, spoil, truncations
-from writes import WRITTEN, back_calls, drawn_writing, first_calls, fixed_writings, text_of, told_apart
+from writes import WRITTEN, back_calls, drawn_writing, first_calls, fixed_writings
+from writes import text_of, told_apart
 
 # The console takes lines of at most so many bytes; a longer text goes to the program alone.
 LINE_BYTES = 140_000
@@ -128,8 +129,8 @@ def fixed_units():
 def drawn_units(seed, networks, texts, lists, writings):
     """Arguments of drawn_unit for so many networks, broken texts, lists of calls and writings."""
     found = []
-    kinds = ("networks", networks, 8), ("bytes", texts, 100), ("calls", lists, 20), ("writes", writings, 20)
-    for kind, count, size in kinds:
+    kinds = ("networks", networks, 8), ("bytes", texts, 100), ("calls", lists, 20)
+    for kind, count, size in (*kinds, ("writes", writings, 20)):
         found += [(kind, seed, part) for part in chunks(range(count), size)]
     return found
 

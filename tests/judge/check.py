@@ -97,7 +97,8 @@ class Checker:
         """The study after a call, and what is wrong with the answer."""
         name, *rest = call
         if name == "other":
-            return study, "" if answer.startswith("error,") else f"{answer[:60]!r} where error is due"
+            right = answer.startswith("error,")
+            return study, "" if right else f"{answer[:60]!r} where error is due"
         if name == "query":
             return study, self.query_reason(study, rest[0], answer)
         if name == "write":

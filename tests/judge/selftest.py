@@ -198,13 +198,14 @@ def written_by_hand(tests):
 def written_and_read(tests):
     """Reading a text gives the study back, so no two studies have the same one."""
     longest = study_after([("start", 10), *as_calls(longest_rows()), ("close",)])
+    most = len(longest.text())
     studies = [longest] + [study_of(any_network(Random(n))[1]) for n in range(60)]
     studies += [Study().read(meant.text)[2] for meant in near_misses() if meant.number == 0]
     for n, study in enumerate(studies):
         number, row, again = Study().read(study.text())
         tests.same(f"study {n} read back", (number, row, vars(again)), (0, 0, vars(study)))
-        tests.true(f"study {n} no longer than the longest", len(study.text()) <= len(longest.text()))
-    print(f"longest text: {len(longest.text())} bytes")
+        tests.true(f"study {n} no longer than the longest", len(study.text()) <= most)
+    print(f"longest text: {most} bytes")
 
 
 def answers_told_apart(tests):

@@ -56,7 +56,7 @@ def written_states():
 
 
 def written_after_refusals():
-    """A refused start or file leaves an open study of tolerance 6, a refused closing one that is open."""
+    """A refused start or file leaves an open study of tolerance 6, a refused closing an open one."""
     low = as_calls(LOW_VOLTAGE)
     at_six = length_after([("start", 6), *low])
     at_ten = length_after([("start", 10), *low])
@@ -83,7 +83,7 @@ def written_without_refused():
         found += [*refused, call]
     found += [*refused, ("source", BASE[1][1]), ("close",)]
     length = length_after(found)
-    return found + [("write", length), *refused, ("close",), ("write", length), ("write", length + 9)]
+    return found + [("write", length), *refused, ("close",), *writes([length, length + 9])]
 
 
 def written_read():
@@ -97,7 +97,7 @@ def written_read():
 
 
 def written_rooms():
-    """Rooms beside every power of two, on an open and on a closed study: the console may print by parts."""
+    """Rooms beside each power of two, open and closed: the console may print them by parts."""
     sizes = [2**power + beside for power in range(4, 17) for beside in (-1, 0, 1)]
     every = writes([*sizes, MOST_ROOM - 1])
     return [("start", 6), *every, ("read", SMALL), *every]
@@ -227,7 +227,7 @@ def told_apart(plan, first, back):
         ("text of the study read back", text_of(back[-1]), text),
     ):
         if one != other:
-            return f"{name} are not what they were"
+            return f"{name}: not what was given before"
     return ""
 
 
