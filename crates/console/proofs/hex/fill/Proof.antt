@@ -36,11 +36,10 @@ loop-less c = simp length-set (omega arith)
 loop-again : tie.Need-loop-again Inv-loop μ-loop
 loop-again c =
     let l = c .before .loop in
-    let h : l .i < length (l .room) = omega arith in
-    let size = length-set (l .room) (l .i) filler in (
-      size ∙ l .inv .0,
-      omega arith,
-      rw (add-one (l .i), take-suc-set (l .room) (l .i) filler h, l .inv .2) (one-more (l .i)),
+    let h : l .i < length (l .room) = omega arith in (
+      simp length-set (l .inv .0),
+      simp length-set (omega arith),
+      rw (add-one, take-suc-set, l .inv .2) (one-more (l .i)),
     )
 
 same-length : tie.Need-same-length Inv-loop μ-loop
