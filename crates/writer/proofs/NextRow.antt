@@ -10,7 +10,7 @@ use lib.Seq.{length-take-le, drop-cons, getD-take}
 use Rattle.network.specs.Network.{Network}
 use Rattle.reader.specs.File.{cr, lf, comma, letterS, letterB, letterP}
 use Rattle.printing.specs.Printed.{decimal, decimal-length}
-use Rattle.writer.specs.Text.{busNumbers, sourceNumbers, follow, rowText, line, records, textOf}
+use Rattle.writer.specs.Text.{busNumbers, sourceNumbers, follow, rowText, endedRow, recordRows, textOf}
 use Rattle.writer.specs.laws.Filling.{Fill, filled, filled-byte, filled-both}
 
 -- ---- numbers
@@ -42,49 +42,49 @@ pub numbers-most : (vs : List ℕ) → length (numbersText vs) ≤ 21 * length v
 numbers-most [] = omega arith
 numbers-most (v ∷ vs) = omega (arith, length-append (decimal v) (numbersText vs), decimal-length v, numbers-most vs)
 
-pub line-length : (letter : ℕ) (vs : List ℕ) → length (line letter vs) ≡ 3 + length (numbersText vs)
-line-length letter vs = length-append (rowText letter vs) (cr ∷ lf ∷ []) ∙ omega arith
+pub ended-row-length : (letter : ℕ) (vs : List ℕ) → length (endedRow letter vs) ≡ 3 + length (numbersText vs)
+ended-row-length letter vs = length-append (rowText letter vs) (cr ∷ lf ∷ []) ∙ omega arith
 
 -- ---- rows
-pub records-most : {X : Type 0} (letter : ℕ) (numbers : X → List ℕ) (most : ℕ) → ((x : X) → 3 + 21 * length (numbers x) ≤ most) → (l : List X)
-    → length (records letter numbers l) ≤ most * length l
-records-most letter numbers most h [] = omega arith
-records-most letter numbers most h (x ∷ l) =
+pub record-rows-most : {X : Type 0} (letter : ℕ) (numbers : X → List ℕ) (most : ℕ) → ((x : X) → 3 + 21 * length (numbers x) ≤ most) → (l : List X)
+    → length (recordRows letter numbers l) ≤ most * length l
+record-rows-most letter numbers most h [] = omega arith
+record-rows-most letter numbers most h (x ∷ l) =
     omega (
       arith,
-      length-append (line letter (numbers x)) (records letter numbers l),
-      line-length letter (numbers x),
+      length-append (endedRow letter (numbers x)) (recordRows letter numbers l),
+      ended-row-length letter (numbers x),
       numbers-most (numbers x),
       h x,
-      records-most letter numbers most h l,
+      record-rows-most letter numbers most h l,
       mul-suc most (length l),
     )
 
 -- of the records of an array that are counted, the rows of those from place i on
 abbrev pub rowsFrom : {X : Type 0} → ℕ → (X → List ℕ) → List X → ℕ → ℕ → List ℕ
-rowsFrom letter numbers array total i = records letter numbers (drop i (take total array))
+rowsFrom letter numbers array total i = recordRows letter numbers (drop i (take total array))
 
 module _ {X : Type 0} (letter : ℕ) (numbers : X → List ℕ) (array : List X) (total : ℕ) (room : total ≤ length array) where
-  pub rows-most : (most : ℕ) → ((x : X) → 3 + 21 * length (numbers x) ≤ most) → length (records letter numbers (take total array)) ≤ most * total
-  rows-most most h = rw (length-take-le total array room) at (records-most letter numbers most h (take total array))
+  pub rows-most : (most : ℕ) → ((x : X) → 3 + 21 * length (numbers x) ≤ most) → length (recordRows letter numbers (take total array)) ≤ most * total
+  rows-most most h = rw (length-take-le total array room) at (record-rows-most letter numbers most h (take total array))
 
   pub rows-end : (i : ℕ) → total ≤ i → rowsFrom letter numbers array total i ≡ []
   rows-end i h = rw (drop-of-length-le (take total array) {i = i} (omega (arith, length-take-le total array room)))
 
   -- the next row, from the numbers of the record at place i
   module _ (d : X) (i : ℕ) (h : i < total) (vs : List ℕ) (same : vs ≡ numbers (getD array i d)) where
-    next-row : rowsFrom letter numbers array total i ≡ line letter vs ++ rowsFrom letter numbers array total (i + 1)
+    next-row : rowsFrom letter numbers array total i ≡ endedRow letter vs ++ rowsFrom letter numbers array total (i + 1)
     next-row =
         let p : i < length (take total array) = omega (arith, length-take-le total array room) in
         rw (add-one i, drop-cons (take total array) i d p, getD-take total array i d h, same)
 
-    pub next-row-length : length (rowsFrom letter numbers array total i) ≡ length (line letter vs) + length (rowsFrom letter numbers array total (i + 1))
-    next-row-length = ap length next-row ∙ length-append (line letter vs) (rowsFrom letter numbers array total (i + 1))
+    pub next-row-length : length (rowsFrom letter numbers array total i) ≡ length (endedRow letter vs) + length (rowsFrom letter numbers array total (i + 1))
+    next-row-length = ap length next-row ∙ length-append (endedRow letter vs) (rowsFrom letter numbers array total (i + 1))
 
-    pub next-row-filled : (f g : Fill) → filled f (line letter vs) ≡ g
+    pub next-row-filled : (f g : Fill) → filled f (endedRow letter vs) ≡ g
         → filled g (rowsFrom letter numbers array total (i + 1)) ≡ filled f (rowsFrom letter numbers array total i)
     next-row-filled f g e =
-        sym (ap (filled f) next-row ∙ filled-both f g (line letter vs) (rowsFrom letter numbers array total (i + 1)) e refl)
+        sym (ap (filled f) next-row ∙ filled-both f g (endedRow letter vs) (rowsFrom letter numbers array total (i + 1)) e refl)
 
 -- ---- the records of a study
 -- the length of an array in a struct, from what owning the struct tells of its list of data tuples
@@ -102,18 +102,18 @@ counted n total l array e same = rw (e, same) (counted-same n l)
 
 -- ---- the whole text, in its three parts
 pub text-length : (n : Network) → length (textOf n)
-    ≡ length (line letterS (n .tolerance ∷ [])) + length (records letterB busNumbers (n .buses)) + length (records letterP sourceNumbers (n .sources))
+    ≡ length (endedRow letterS (n .tolerance ∷ [])) + length (recordRows letterB busNumbers (n .buses)) + length (recordRows letterP sourceNumbers (n .sources))
 unfolding textOf
 text-length n =
-    let start = line letterS (n .tolerance ∷ []) in
-    let buses = records letterB busNumbers (n .buses) in
-    let sources = records letterP sourceNumbers (n .sources) in
+    let start = endedRow letterS (n .tolerance ∷ []) in
+    let buses = recordRows letterB busNumbers (n .buses) in
+    let sources = recordRows letterP sourceNumbers (n .sources) in
     omega (arith, length-append start (buses ++ sources), length-append buses sources)
 
 pub text-filled : (n : Network) (f g h : Fill) {k : Fill}
-    → filled f (line letterS (n .tolerance ∷ [])) ≡ g → filled g (records letterB busNumbers (n .buses)) ≡ h → filled h (records letterP sourceNumbers (n .sources)) ≡ k
+    → filled f (endedRow letterS (n .tolerance ∷ [])) ≡ g → filled g (recordRows letterB busNumbers (n .buses)) ≡ h → filled h (recordRows letterP sourceNumbers (n .sources)) ≡ k
     → filled f (textOf n) ≡ k
 unfolding textOf
 text-filled n f g h start buses sources =
-    filled-both f g (line letterS (n .tolerance ∷ [])) (records letterB busNumbers (n .buses) ++ records letterP sourceNumbers (n .sources)) start
-    (filled-both g h (records letterB busNumbers (n .buses)) (records letterP sourceNumbers (n .sources)) buses sources)
+    filled-both f g (endedRow letterS (n .tolerance ∷ [])) (recordRows letterB busNumbers (n .buses) ++ recordRows letterP sourceNumbers (n .sources)) start
+    (filled-both g h (recordRows letterB busNumbers (n .buses)) (recordRows letterP sourceNumbers (n .sources)) buses sources)

@@ -6,14 +6,14 @@ use native.Mathlib.Omega.{arith}
 use lib.ListN.{length, take}
 use Rattle.network.specs.Network.{maxBuses, blank}
 use Rattle.reader.specs.File.{letterB}
-use Rattle.writer.specs.Text.{busNumbers, records}
+use Rattle.writer.specs.Text.{busNumbers, recordRows}
 use Rattle.writer.proofs.NextRow.{rowsFrom, rows-most, rows-end, next-row-length, length-mapped}
 use borrow.Author.Needs.{needs}
 use Rattle.writer.proofs.buses_size.Statement.{statement}
 use Rattle.writer.proofs.buses_size.Tie as tie
 
 abbrev Inv-loop : tie.InvT-loop
-Inv-loop total buses size₀ i₀ size i = (i ≤ total) × (size + length (rowsFrom letterB busNumbers buses total i) ≡ length (records letterB busNumbers (take total buses)))
+Inv-loop total buses size₀ i₀ size i = (i ≤ total) × (size + length (rowsFrom letterB busNumbers buses total i) ≡ length (recordRows letterB busNumbers (take total buses)))
 
 abbrev μ-loop : tie.MeasureT-loop
 μ-loop total buses size₀ i₀ size i = total - i

@@ -6,7 +6,7 @@ use native.Mathlib.Omega.{arith}
 use lib.ListN.{length, take}
 use Rattle.network.specs.Network.{maxBuses, blank}
 use Rattle.reader.specs.File.{letterB}
-use Rattle.writer.specs.Text.{busNumbers, line, records}
+use Rattle.writer.specs.Text.{busNumbers, endedRow, recordRows}
 use Rattle.writer.specs.laws.Filling.{filled, filled-nothing, filled-end, filled-length}
 use Rattle.writer.proofs.NextRow.{rowsFrom, rows-end, next-row-length, next-row-filled, length-mapped}
 use borrow.Author.Needs.{needs}
@@ -16,7 +16,7 @@ use Rattle.writer.proofs.fill_buses.Tie as tie
 abbrev Inv-loop : tie.InvT-loop
 Inv-loop buffer₀ at total buses to₀ i₀ buffer to i =
     (i ≤ total) × (length buffer ≡ length buffer₀) × (to + length (rowsFrom letterB busNumbers buses total i) ≤ length buffer₀)
-    × (filled (buffer, to) (rowsFrom letterB busNumbers buses total i) ≡ filled (buffer₀, at) (records letterB busNumbers (take total buses)))
+    × (filled (buffer, to) (rowsFrom letterB busNumbers buses total i) ≡ filled (buffer₀, at) (recordRows letterB busNumbers (take total buses)))
 
 abbrev μ-loop : tie.MeasureT-loop
 μ-loop buffer₀ at total buses to₀ i₀ buffer to i = total - i
@@ -57,7 +57,7 @@ loop-again c =
     let whole : length (a .t3) ≡ maxBuses = search (needs, length-mapped) in
     let numbers = c .before .before .before .before .before .bus-numbers in
     let row = c .before .before .fill-row in
-    let text = line letterB (numbers .result) in
+    let text = endedRow letterB (numbers .result) in
     let long = next-row-length letterB busNumbers (a .t3) (a .total) (omega arith) blank (l .i) (omega arith) (numbers .result) (numbers .ensures) in
     let end = filled-end (l .buffer) (l .to) text (row .ensures) in (
       omega arith,

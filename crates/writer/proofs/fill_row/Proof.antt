@@ -8,7 +8,7 @@ use lib.ListN.{length, drop, getD, set, drop-of-length-le, length-set}
 use Rattle.reader.specs.File.{cr, lf, comma}
 use Rattle.printing.specs.Printed.{decimal}
 use Rattle.writer.specs.laws.Filling.{filled, filled-byte, filled-two, filled-end, filled-length}
-use Rattle.writer.proofs.NextRow.{numbersText, next-number-length, next-number-filled, line-length}
+use Rattle.writer.proofs.NextRow.{numbersText, next-number-length, next-number-filled, ended-row-length}
 use borrow.Author.Needs.{needs}
 use Rattle.writer.proofs.fill_row.Statement.{statement}
 use Rattle.writer.proofs.fill_row.Tie as tie
@@ -31,7 +31,7 @@ loop-holds : tie.Need-loop-holds Inv-loop μ-loop
 loop-holds c =
     let a = c .before .before .args in
     let same = length-set (a .buffer .now) (a .at) (a .letter) in
-    (omega arith, omega arith, refl, omega (arith, line-length (a .letter) (a .numbers .now)), refl)
+    (omega arith, omega arith, refl, omega (arith, ended-row-length (a .letter) (a .numbers .now)), refl)
 
 slice-write-buffer-2 : tie.Need-slice-write-buffer-2 Inv-loop μ-loop
 slice-write-buffer-2 c = search needs

@@ -6,7 +6,7 @@ use native.Mathlib.Omega.{arith}
 use lib.ListN.{length, take}
 use Rattle.network.specs.Network.{maxSources, blankSource}
 use Rattle.reader.specs.File.{letterP}
-use Rattle.writer.specs.Text.{sourceNumbers, line, records}
+use Rattle.writer.specs.Text.{sourceNumbers, endedRow, recordRows}
 use Rattle.writer.specs.laws.Filling.{filled, filled-nothing, filled-end, filled-length}
 use Rattle.writer.proofs.NextRow.{rowsFrom, rows-end, next-row-length, next-row-filled, length-mapped}
 use borrow.Author.Needs.{needs}
@@ -16,7 +16,7 @@ use Rattle.writer.proofs.fill_sources.Tie as tie
 abbrev Inv-loop : tie.InvT-loop
 Inv-loop buffer₀ at total sources to₀ i₀ buffer to i =
     (i ≤ total) × (length buffer ≡ length buffer₀) × (to + length (rowsFrom letterP sourceNumbers sources total i) ≤ length buffer₀)
-    × (filled (buffer, to) (rowsFrom letterP sourceNumbers sources total i) ≡ filled (buffer₀, at) (records letterP sourceNumbers (take total sources)))
+    × (filled (buffer, to) (rowsFrom letterP sourceNumbers sources total i) ≡ filled (buffer₀, at) (recordRows letterP sourceNumbers (take total sources)))
 
 abbrev μ-loop : tie.MeasureT-loop
 μ-loop buffer₀ at total sources to₀ i₀ buffer to i = total - i
@@ -57,7 +57,7 @@ loop-again c =
     let whole : length (a .t3) ≡ maxSources = search (needs, length-mapped) in
     let numbers = c .before .before .before .before .before .source-numbers in
     let row = c .before .before .fill-row in
-    let text = line letterP (numbers .result) in
+    let text = endedRow letterP (numbers .result) in
     let long = next-row-length letterP sourceNumbers (a .t3) (a .total) (omega arith) blankSource (l .i) (omega arith) (numbers .result) (numbers .ensures) in
     let end = filled-end (l .buffer) (l .to) text (row .ensures) in (
       omega arith,

@@ -6,7 +6,7 @@ use native.Mathlib.Omega.{arith}
 use lib.ListN.{length, take, length-take}
 use Rattle.network.specs.Network.{network, maxBuses, maxSources}
 use Rattle.reader.specs.File.{letterS, letterB, letterP}
-use Rattle.writer.specs.Text.{busNumbers, sourceNumbers, line, records}
+use Rattle.writer.specs.Text.{busNumbers, sourceNumbers, endedRow, recordRows}
 use Rattle.writer.specs.laws.Filling.{filled, filled-end, filled-length}
 use Rattle.writer.proofs.NextRow.{length-mapped, counted, text-length, text-filled}
 use borrow.Author.Needs.{needs}
@@ -23,7 +23,7 @@ slice-aggregate-fill-row c = search needs
 fill-row-requires : tie.Need-fill-row-requires
 fill-row-requires c κs =
     let s = c .before .before .before .before .args .s in
-    omega (arith, text-length (network s), ap (λ (t : ℕ). length (line letterS (t ∷ []))) (c .before .before .tolerance-of .ensures))
+    omega (arith, text-length (network s), ap (λ (t : ℕ). length (endedRow letterS (t ∷ []))) (c .before .before .tolerance-of .ensures))
 
 buses-of-requires : tie.Need-buses-of-requires
 buses-of-requires c κs = search needs
@@ -36,7 +36,7 @@ fill-buses-requires c κs =
     let a = c .before .before .before .before .before .before .before .before .before .before .args in
     let s = a .s in
     let whole : length (s .buses) ≡ maxBuses = search (needs, length-mapped) in
-    let start = line letterS (c .before .before .before .before .before .before .before .before .tolerance-of .result ∷ []) in
+    let start = endedRow letterS (c .before .before .before .before .before .before .before .before .tolerance-of .result ∷ []) in
     let row = c .before .before .before .before .before .fill-row in
     let end = filled-end (a .buffer .now) 0 start (row .ensures) in
     let long = filled-length (a .buffer .now) 0 start (row .ensures) in (
@@ -44,8 +44,8 @@ fill-buses-requires c κs =
       omega (
         arith,
         text-length (network s),
-        ap (λ (t : ℕ). length (line letterS (t ∷ []))) (c .before .before .before .before .before .before .before .before .tolerance-of .ensures),
-        ap (λ (l : List _). length (records letterB busNumbers l)) (counted (s .«bus_count») _ (s .buses) _ (c .bus-total .ensures) (c .before .buses-of .ensures)),
+        ap (λ (t : ℕ). length (endedRow letterS (t ∷ []))) (c .before .before .before .before .before .before .before .before .tolerance-of .ensures),
+        ap (λ (l : List _). length (recordRows letterB busNumbers l)) (counted (s .«bus_count») _ (s .buses) _ (c .bus-total .ensures) (c .before .buses-of .ensures)),
       ),
     )
 
@@ -60,21 +60,21 @@ fill-sources-requires c κs =
     let a = c .before .before .before .before .before .before .before .before .before .before .before .before .before .before .before .before .args in
     let s = a .s in
     let whole : length (s .sources) ≡ maxSources = search (needs, length-mapped) in
-    let start = line letterS (c .before .before .before .before .before .before .before .before .before .before .before .before .before .before .tolerance-of .result ∷ []) in
+    let start = endedRow letterS (c .before .before .before .before .before .before .before .before .before .before .before .before .before .before .tolerance-of .result ∷ []) in
     let row = c .before .before .before .before .before .before .before .before .before .before .before .fill-row in
     let buses = take (c .before .before .before .before .before .before .bus-total .result) (c .before .before .before .before .before .before .before .buses-of .result) in
     let rows = c .before .before .before .before .before .fill-buses in
     let start-end = filled-end (a .buffer .now) 0 start (row .ensures) in
     let start-long = filled-length (a .buffer .now) 0 start (row .ensures) in
-    let end = filled-end (row .last .0) (row .result) (records letterB busNumbers buses) (rows .ensures) in
-    let long = filled-length (row .last .0) (row .result) (records letterB busNumbers buses) (rows .ensures) in (
+    let end = filled-end (row .last .0) (row .result) (recordRows letterB busNumbers buses) (rows .ensures) in
+    let long = filled-length (row .last .0) (row .result) (recordRows letterB busNumbers buses) (rows .ensures) in (
       omega (arith, c .source-total .ensures, length-take (s .«source_count») (s .sources)),
       omega (
         arith,
         text-length (network s),
-        ap (λ (t : ℕ). length (line letterS (t ∷ []))) (c .before .before .before .before .before .before .before .before .before .before .before .before .before .before .tolerance-of .ensures),
-        ap (λ (l : List _). length (records letterB busNumbers l)) (counted (s .«bus_count») _ (s .buses) _ (c .before .before .before .before .before .before .bus-total .ensures) (c .before .before .before .before .before .before .before .buses-of .ensures)),
-        ap (λ (l : List _). length (records letterP sourceNumbers l)) (counted (s .«source_count») _ (s .sources) _ (c .source-total .ensures) (c .before .sources-of .ensures)),
+        ap (λ (t : ℕ). length (endedRow letterS (t ∷ []))) (c .before .before .before .before .before .before .before .before .before .before .before .before .before .before .tolerance-of .ensures),
+        ap (λ (l : List _). length (recordRows letterB busNumbers l)) (counted (s .«bus_count») _ (s .buses) _ (c .before .before .before .before .before .before .bus-total .ensures) (c .before .before .before .before .before .before .before .buses-of .ensures)),
+        ap (λ (l : List _). length (recordRows letterP sourceNumbers l)) (counted (s .«source_count») _ (s .sources) _ (c .source-total .ensures) (c .before .sources-of .ensures)),
       ),
     )
 

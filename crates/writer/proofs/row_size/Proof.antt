@@ -6,7 +6,7 @@ use Prim.Native.Nat.{ℕ, _+_, _-_, _≤_}
 use native.Mathlib.Omega.{arith}
 use lib.ListN.{length, drop, getD, drop-of-length-le}
 use Rattle.printing.specs.Printed.{decimal-length}
-use Rattle.writer.proofs.NextRow.{numbersText, next-number-length, numbers-most, line-length}
+use Rattle.writer.proofs.NextRow.{numbersText, next-number-length, numbers-most, ended-row-length}
 use borrow.Author.Needs.{needs}
 use Rattle.writer.proofs.row_size.Statement.{statement}
 use Rattle.writer.proofs.row_size.Tie as tie
@@ -54,7 +54,7 @@ returns : tie.Need-returns Inv-loop μ-loop
 returns c letter =
     let numbers = c .before .before .before .args .numbers .now in
     let none = ap (λ (l : List ℕ). length (numbersText l)) (drop-of-length-le numbers {i = c .before .loop .i} (omega arith)) in
-    omega (arith, line-length letter numbers)
+    omega (arith, ended-row-length letter numbers)
 
 pub row-size-spec : {M : Type 1} → statement M
 row-size-spec =

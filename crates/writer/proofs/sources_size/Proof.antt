@@ -6,14 +6,14 @@ use native.Mathlib.Omega.{arith}
 use lib.ListN.{length, take}
 use Rattle.network.specs.Network.{maxSources, blankSource}
 use Rattle.reader.specs.File.{letterP}
-use Rattle.writer.specs.Text.{sourceNumbers, records}
+use Rattle.writer.specs.Text.{sourceNumbers, recordRows}
 use Rattle.writer.proofs.NextRow.{rowsFrom, rows-most, rows-end, next-row-length, length-mapped}
 use borrow.Author.Needs.{needs}
 use Rattle.writer.proofs.sources_size.Statement.{statement}
 use Rattle.writer.proofs.sources_size.Tie as tie
 
 abbrev Inv-loop : tie.InvT-loop
-Inv-loop total sources size₀ i₀ size i = (i ≤ total) × (size + length (rowsFrom letterP sourceNumbers sources total i) ≡ length (records letterP sourceNumbers (take total sources)))
+Inv-loop total sources size₀ i₀ size i = (i ≤ total) × (size + length (rowsFrom letterP sourceNumbers sources total i) ≡ length (recordRows letterP sourceNumbers (take total sources)))
 
 abbrev μ-loop : tie.MeasureT-loop
 μ-loop total sources size₀ i₀ size i = total - i

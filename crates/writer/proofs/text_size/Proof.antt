@@ -6,8 +6,8 @@ use native.Mathlib.Omega.{arith}
 use lib.ListN.{length, take, length-take}
 use Rattle.network.specs.Network.{network, maxBuses, maxSources}
 use Rattle.reader.specs.File.{letterS, letterB, letterP}
-use Rattle.writer.specs.Text.{busNumbers, sourceNumbers, line, records}
-use Rattle.writer.proofs.NextRow.{length-mapped, counted, numbers-most, line-length, records-most, text-length}
+use Rattle.writer.specs.Text.{busNumbers, sourceNumbers, endedRow, recordRows}
+use Rattle.writer.proofs.NextRow.{length-mapped, counted, numbers-most, ended-row-length, record-rows-most, text-length}
 use borrow.Author.Needs.{needs}
 use borrow.Author.Needs.{needs}
 use Rattle.writer.proofs.text_size.Statement.{statement}
@@ -56,10 +56,10 @@ add-result c =
     omega (
       arith,
       c .before .before .before .before .before .before .row-size .ensures letterS,
-      line-length letterS (t ∷ []),
+      ended-row-length letterS (t ∷ []),
       numbers-most (t ∷ []),
       c .before .before .before .buses-size .ensures,
-      records-most letterB busNumbers 213 (λ x. omega arith) buses,
+      record-rows-most letterB busNumbers 213 (λ x. omega arith) buses,
       length-take (c .before .before .before .before .bus-total .result) (c .before .before .before .before .before .buses-of .result),
       c .before .before .before .before .bus-total .ensures,
       length-take (s .«bus_count») (s .buses),
@@ -76,15 +76,15 @@ add-result-2 c =
     omega (
       arith,
       c .before .before .before .before .before .before .row-size .ensures letterS,
-      line-length letterS (t ∷ []),
+      ended-row-length letterS (t ∷ []),
       numbers-most (t ∷ []),
       c .before .before .before .buses-size .ensures,
-      records-most letterB busNumbers 213 (λ x. omega arith) buses,
+      record-rows-most letterB busNumbers 213 (λ x. omega arith) buses,
       length-take (c .before .before .before .before .bus-total .result) (c .before .before .before .before .before .buses-of .result),
       c .before .before .before .before .bus-total .ensures,
       length-take (s .«bus_count») (s .buses),
       c .sources-size .ensures,
-      records-most letterP sourceNumbers 150 (λ x. omega arith) sources,
+      record-rows-most letterP sourceNumbers 150 (λ x. omega arith) sources,
       length-take (c .before .source-total .result) (c .before .before .sources-of .result),
       c .before .source-total .ensures,
       length-take (s .«source_count») (s .sources),
@@ -93,9 +93,9 @@ add-result-2 c =
 returns : tie.Need-returns
 returns c =
     let s = c .before .before .before .before .before .before .before .before .before .args .s in
-    let start = c .before .before .before .before .before .before .row-size .ensures letterS ∙ ap (λ (t : ℕ). length (line letterS (t ∷ []))) (c .before .before .before .before .before .before .before .before .tolerance-of .ensures) in
-    let buses = c .before .before .before .buses-size .ensures ∙ ap (λ (l : List _). length (records letterB busNumbers l)) (counted (s .«bus_count») _ (s .buses) _ (c .before .before .before .before .bus-total .ensures) (c .before .before .before .before .before .buses-of .ensures)) in
-    let sources = c .sources-size .ensures ∙ ap (λ (l : List _). length (records letterP sourceNumbers l)) (counted (s .«source_count») _ (s .sources) _ (c .before .source-total .ensures) (c .before .before .sources-of .ensures)) in
+    let start = c .before .before .before .before .before .before .row-size .ensures letterS ∙ ap (λ (t : ℕ). length (endedRow letterS (t ∷ []))) (c .before .before .before .before .before .before .before .before .tolerance-of .ensures) in
+    let buses = c .before .before .before .buses-size .ensures ∙ ap (λ (l : List _). length (recordRows letterB busNumbers l)) (counted (s .«bus_count») _ (s .buses) _ (c .before .before .before .before .bus-total .ensures) (c .before .before .before .before .before .buses-of .ensures)) in
+    let sources = c .sources-size .ensures ∙ ap (λ (l : List _). length (recordRows letterP sourceNumbers l)) (counted (s .«source_count») _ (s .sources) _ (c .before .source-total .ensures) (c .before .before .sources-of .ensures)) in
     omega (arith, text-length (network s))
 
 pub text-size-spec : {M : Type 1} → statement M

@@ -4,29 +4,29 @@ use mathlib.Core.List.{List, [], _∷_, _++_, map, append-assoc}
 use Prim.Native.Nat.{ℕ}
 use Rattle.network.specs.Network.{Network}
 use Rattle.reader.specs.File.{cr, lf, letterS, letterB, letterP}
-use Rattle.writer.specs.Text.{busNumbers, sourceNumbers, rowText, records, textOf}
+use Rattle.writer.specs.Text.{busNumbers, sourceNumbers, rowText, recordRows, textOf}
 
-abbrev pub lines : List (List ℕ) → List ℕ
-lines [] = []
-lines (r ∷ rs) = r ++ (cr ∷ lf ∷ lines rs)
+abbrev pub endedRows : List (List ℕ) → List ℕ
+endedRows [] = []
+endedRows (r ∷ rs) = r ++ (cr ∷ lf ∷ endedRows rs)
 
 -- the rows of a tolerance, of the numbers of each bus, and of those of each source
 abbrev pub rowsOf : ℕ → List (List ℕ) → List (List ℕ) → List (List ℕ)
 rowsOf tolerance buses sources = rowText letterS (tolerance ∷ []) ∷ (map (rowText letterB) buses ++ map (rowText letterP) sources)
 
-lines-both : (a b : List (List ℕ)) → lines (a ++ b) ≡ lines a ++ lines b
-lines-both [] b = refl
-lines-both (r ∷ a) b = rw (lines-both a b) (sym (append-assoc r (cr ∷ lf ∷ lines a) (lines b)))
+ended-both : (a b : List (List ℕ)) → endedRows (a ++ b) ≡ endedRows a ++ endedRows b
+ended-both [] b = refl
+ended-both (r ∷ a) b = rw (ended-both a b) (sym (append-assoc r (cr ∷ lf ∷ endedRows a) (endedRows b)))
 
-records-lines : {X : Type 0} (letter : ℕ) (numbers : X → List ℕ) (l : List X) → records letter numbers l ≡ lines (map (rowText letter) (map numbers l))
-records-lines letter numbers [] = refl
-records-lines letter numbers (x ∷ l) = append-assoc (rowText letter (numbers x)) (cr ∷ lf ∷ []) (records letter numbers l) ∙ rw (records-lines letter numbers l)
+record-rows-ended : {X : Type 0} (letter : ℕ) (numbers : X → List ℕ) (l : List X) → recordRows letter numbers l ≡ endedRows (map (rowText letter) (map numbers l))
+record-rows-ended letter numbers [] = refl
+record-rows-ended letter numbers (x ∷ l) = append-assoc (rowText letter (numbers x)) (cr ∷ lf ∷ []) (recordRows letter numbers l) ∙ rw (record-rows-ended letter numbers l)
 
-pub text-lines : (n : Network) → textOf n ≡ lines (rowsOf (n .tolerance) (map busNumbers (n .buses)) (map sourceNumbers (n .sources)))
+pub text-ended-rows : (n : Network) → textOf n ≡ endedRows (rowsOf (n .tolerance) (map busNumbers (n .buses)) (map sourceNumbers (n .sources)))
 unfolding textOf
-text-lines n =
+text-ended-rows n =
     let start = rowText letterS (n .tolerance ∷ []) in
     let buses = map (rowText letterB) (map busNumbers (n .buses)) in
     let sources = map (rowText letterP) (map sourceNumbers (n .sources)) in
-    rw (records-lines letterB busNumbers (n .buses), records-lines letterP sourceNumbers (n .sources))
-    (append-assoc start (cr ∷ lf ∷ []) (lines buses ++ lines sources) ∙ ap (λ (rest : List ℕ). start ++ (cr ∷ lf ∷ rest)) (sym (lines-both buses sources)))
+    rw (record-rows-ended letterB busNumbers (n .buses), record-rows-ended letterP sourceNumbers (n .sources))
+    (append-assoc start (cr ∷ lf ∷ []) (endedRows buses ++ endedRows sources) ∙ ap (λ (rest : List ℕ). start ++ (cr ∷ lf ∷ rest)) (sym (ended-both buses sources)))
