@@ -11,7 +11,7 @@ use Rattle.network.specs.Network.{Network}
 use Rattle.reader.specs.File.{cr, lf, comma, letterS, letterB, letterP}
 use Rattle.printing.specs.Printed.{decimal, decimal-length}
 use Rattle.writer.specs.Text.{busNumbers, sourceNumbers, follow, rowText, endedRow, recordRows, textOf}
-use Rattle.writer.specs.laws.Filling.{Fill, filled, filled-byte, filled-both}
+use Rattle.writer.specs.laws.Laying.{Placed, laid, laid-byte, laid-both}
 
 -- ---- numbers
 abbrev pub numbersText : List ℕ → List ℕ
@@ -24,17 +24,17 @@ pub next-number-length : (vs : List ℕ) (i : ℕ) → i < length vs
     → length (numbersText (drop i vs)) ≡ 1 + length (decimal (getD vs i 0)) + length (numbersText (drop (i + 1) vs))
 next-number-length vs i h = ap length (next-number vs i h) ∙ length-append (comma ∷ decimal (getD vs i 0)) (numbersText (drop (i + 1) vs)) ∙ omega arith
 
-pub next-number-filled : (l m : List ℕ) (at end : ℕ) (vs : List ℕ) (i : ℕ) (tail : List ℕ) → i < length vs
-    → filled (set l at comma, at + 1) (decimal (getD vs i 0)) ≡ (m, end)
-    → filled (m, end) (numbersText (drop (i + 1) vs) ++ tail) ≡ filled (l, at) (numbersText (drop i vs) ++ tail)
-next-number-filled l m at end vs i tail h e =
+pub next-number-laid : (l m : List ℕ) (at end : ℕ) (vs : List ℕ) (i : ℕ) (tail : List ℕ) → i < length vs
+    → laid (set l at comma, at + 1) (decimal (getD vs i 0)) ≡ (m, end)
+    → laid (m, end) (numbersText (drop (i + 1) vs) ++ tail) ≡ laid (l, at) (numbersText (drop i vs) ++ tail)
+next-number-laid l m at end vs i tail h e =
     let digits = decimal (getD vs i 0) in
     let later = numbersText (drop (i + 1) vs) in
     sym (
-    ap (λ (text : List ℕ). filled (l, at) (text ++ tail)) (next-number vs i h)
-    ∙ filled-byte l at comma (digits ++ later ++ tail)
-    ∙ ap (filled (set l at comma, at + 1)) (append-assoc digits later tail)
-    ∙ filled-both (set l at comma, at + 1) (m, end) digits (later ++ tail) e refl
+    ap (λ (text : List ℕ). laid (l, at) (text ++ tail)) (next-number vs i h)
+    ∙ laid-byte l at comma (digits ++ later ++ tail)
+    ∙ ap (laid (set l at comma, at + 1)) (append-assoc digits later tail)
+    ∙ laid-both (set l at comma, at + 1) (m, end) digits (later ++ tail) e refl
     )
 
 -- whatever a number is, it has at most twenty digits
@@ -81,10 +81,10 @@ module _ {X : Type 0} (letter : ℕ) (numbers : X → List ℕ) (array : List X)
     pub next-row-length : length (rowsFrom letter numbers array total i) ≡ length (endedRow letter vs) + length (rowsFrom letter numbers array total (i + 1))
     next-row-length = ap length next-row ∙ length-append (endedRow letter vs) (rowsFrom letter numbers array total (i + 1))
 
-    pub next-row-filled : (f g : Fill) → filled f (endedRow letter vs) ≡ g
-        → filled g (rowsFrom letter numbers array total (i + 1)) ≡ filled f (rowsFrom letter numbers array total i)
-    next-row-filled f g e =
-        sym (ap (filled f) next-row ∙ filled-both f g (endedRow letter vs) (rowsFrom letter numbers array total (i + 1)) e refl)
+    pub next-row-laid : (f g : Placed) → laid f (endedRow letter vs) ≡ g
+        → laid g (rowsFrom letter numbers array total (i + 1)) ≡ laid f (rowsFrom letter numbers array total i)
+    next-row-laid f g e =
+        sym (ap (laid f) next-row ∙ laid-both f g (endedRow letter vs) (rowsFrom letter numbers array total (i + 1)) e refl)
 
 -- ---- the records of a study
 -- the length of an array in a struct, from what owning the struct tells of its list of data tuples
@@ -110,10 +110,10 @@ text-length n =
     let sources = recordRows letterP sourceNumbers (n .sources) in
     omega (arith, length-append start (buses ++ sources), length-append buses sources)
 
-pub text-filled : (n : Network) (f g h : Fill) {k : Fill}
-    → filled f (endedRow letterS (n .tolerance ∷ [])) ≡ g → filled g (recordRows letterB busNumbers (n .buses)) ≡ h → filled h (recordRows letterP sourceNumbers (n .sources)) ≡ k
-    → filled f (textOf n) ≡ k
+pub text-laid : (n : Network) (f g h : Placed) {k : Placed}
+    → laid f (endedRow letterS (n .tolerance ∷ [])) ≡ g → laid g (recordRows letterB busNumbers (n .buses)) ≡ h → laid h (recordRows letterP sourceNumbers (n .sources)) ≡ k
+    → laid f (textOf n) ≡ k
 unfolding textOf
-text-filled n f g h start buses sources =
-    filled-both f g (endedRow letterS (n .tolerance ∷ [])) (recordRows letterB busNumbers (n .buses) ++ recordRows letterP sourceNumbers (n .sources)) start
-    (filled-both g h (recordRows letterB busNumbers (n .buses)) (recordRows letterP sourceNumbers (n .sources)) buses sources)
+text-laid n f g h start buses sources =
+    laid-both f g (endedRow letterS (n .tolerance ∷ [])) (recordRows letterB busNumbers (n .buses) ++ recordRows letterP sourceNumbers (n .sources)) start
+    (laid-both g h (recordRows letterB busNumbers (n .buses)) (recordRows letterP sourceNumbers (n .sources)) buses sources)

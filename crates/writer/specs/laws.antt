@@ -1,5 +1,5 @@
--- From digits to the whole text: that what is written is read as what it was written from, and how long it is; then what `write` fills
--- a buffer with.
+-- From digits to the whole text: that what is written is read as what it was written from, and how long it is; then what `write` lays
+-- into a buffer.
 pub mod Each
 pub mod TextRows
 pub mod Decimals
@@ -9,6 +9,6 @@ pub mod TextLength
 pub mod RecordDigits
 pub mod TextFits
 pub mod TextRead
-pub mod Filling
+pub mod Laying
 pub mod WriteCases
 pub mod ReadBackLaw

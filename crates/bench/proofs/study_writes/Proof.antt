@@ -1,3 +1,4 @@
+-- `study_writes` meets its contract: the network of the study is that of the text.
 use mathlib.Core.Path.{sym, ap, _∙_}
 use Rattle.bench.specs.Writes.{writtenTimes}
 use borrow.Author.Needs.{needs}

@@ -1,7 +1,7 @@
 -- `number_size` meets its contract. The invariant: the bound is ten to the size, and the number reaches ten to one less. The measure is
 -- how far the bound is from one that no number of 32 bits reaches.
-use mathlib.Core.Path.{_≡_, refl, sym, _∙_}
-use Prim.Native.Nat.{suc, _+_, _*_, _-_, _^_, _≤_, _<_}
+use mathlib.Core.Path.{_≡_, refl, sym}
+use Prim.Native.Nat.{_+_, _-_, _^_, _≤_, _<_}
 use native.Mathlib.Nat.{pow-suc}
 use native.Mathlib.Numerals.{add-one}
 use native.Mathlib.Omega.{arith}

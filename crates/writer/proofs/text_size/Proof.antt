@@ -1,7 +1,7 @@
 -- `text_size` meets its contract: the row of the tolerance, those of the buses and those of the sources make the text.
 use mathlib.Core.Path.{_≡_, ap, _∙_}
 use mathlib.Core.List.{List, [], _∷_}
-use Prim.Native.Nat.{ℕ, _+_, _≤_}
+use Prim.Native.Nat.{ℕ}
 use native.Mathlib.Omega.{arith}
 use lib.ListN.{length, take, length-take}
 use Rattle.network.specs.Network.{network, maxBuses, maxSources}

@@ -1,11 +1,8 @@
 -- `write_number` meets its contract: 22 is tried first, then 30.
-use mathlib.Core.Path.{sym, ap, _∙_}
-use Prim.Native.Nat.{_≤_, _<_}
+use mathlib.Core.Path.{sym, _∙_}
 use native.Mathlib.Omega.{arith}
 use borrow.Author.Tests.{not-true, not-false, ltb-true, ltb-false}
-use lib.ListN.{length}
 use Rattle.network.specs.Network.{network}
-use Rattle.writer.specs.Text.{textOf}
 use Rattle.writer.specs.laws.WriteCases.{open-number, short-number, no-ground}
 use borrow.Author.Needs.{needs}
 use borrow.Author.Needs.{needs}
