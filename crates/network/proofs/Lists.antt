@@ -1,7 +1,7 @@
 -- The records that are counted, as the first ones of the array that holds them.
-use mathlib.Core.Path.{_≡_, sym, _∙_}
+use mathlib.Core.Path.{_≡_, refl, sym, ap, _∙_}
 use mathlib.Core.List.{List, [], _∷_, _++_, map}
-use Prim.Native.Nat.{ℕ, _+_, _≤_, _<_}
+use Prim.Native.Nat.{ℕ, zero, suc, _+_, _≤_, _<_}
 use native.Mathlib.Omega.{arith}
 use native.Mathlib.Numerals.{add-one}
 use lib.ListN.{length, take, set, getD, length-map, length-take, List·getD-eq-default}
@@ -10,6 +10,12 @@ use lib.Seq.{take-suc-set, getD-take}
 -- the length of an array in a struct, from what owning the struct tells of its list of data tuples
 pub length-mapped : {X Y : Type 0} (f : X → Y) (l : List X) (n : ℕ) → length (map f l) ≡ n → length l ≡ n
 length-mapped f l n e = sym (length-map l f) ∙ e
+
+-- as many records as are counted are the counted ones
+pub counted-again : {X : Type 0} (n : ℕ) (l : List X) → take (length (take n l)) l ≡ take n l
+counted-again zero l = refl
+counted-again (suc n) [] = refl
+counted-again (suc n) (x ∷ l) = ap (λ (r : List _). x ∷ r) (counted-again n l)
 
 module _ {X : Type 0} (cap n : ℕ) (l : List X) (whole : length l ≡ cap) where
   -- a count below the capacity is the number of records, any other counts them all

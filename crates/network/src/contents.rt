@@ -1,5 +1,6 @@
-// What a study holds, for the crates above: all of it at once, since each call by value copies the study.
+// What a study holds, for the crates above. The arrays are given whole: a call for each record would copy the study each time.
 ghost use mathlib.Core.Path.{_≡_};
+ghost use lib.ListN.{length, take};
 ghost use Rattle.network.specs.Network.{network};
 use crate::BUSES;
 use crate::Bus;
@@ -21,16 +22,16 @@ pub fn is_closed(s: Study) -> bool
     s.closed
 }
 
-// The array of bus records, of which the first `bus_total` are its buses.
+// Its buses: the first `bus_total` records of the array. What stands behind them means nothing.
 pub fn buses_of(s: Study) -> [Bus; BUSES]
-    ensures { λ r. ⌜ r ≡ s .buses ⌝ }
+    ensures { λ r. ⌜ take (length (network s .buses)) r ≡ network s .buses ⌝ }
 {
     s.buses
 }
 
-// The array of source records, of which the first `source_total` are its sources.
+// Its sources: the first `source_total` records of the array.
 pub fn sources_of(s: Study) -> [Source; SOURCES]
-    ensures { λ r. ⌜ r ≡ s .sources ⌝ }
+    ensures { λ r. ⌜ take (length (network s .sources)) r ≡ network s .sources ⌝ }
 {
     s.sources
 }

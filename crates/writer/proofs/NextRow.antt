@@ -1,4 +1,4 @@
--- What a turn of the loops counts and puts: the next number of a row, the next row of the records; and how long these are at most.
+-- What a turn of the loops counts and lays: the next number of a row, the next row of the records; and how long these are at most.
 use mathlib.Core.Path.{_≡_, refl, sym, ap, _∙_}
 use mathlib.Core.List.{List, [], _∷_, _++_, map, append-assoc}
 use Prim.Native.Nat.{ℕ, zero, suc, _+_, _*_, _≤_, _<_}
@@ -17,7 +17,7 @@ use Rattle.writer.specs.laws.Laying.{Placed, laid, laid-byte, laid-both}
 abbrev pub numbersText : List ℕ → List ℕ
 numbersText vs = follow (map decimal vs)
 
-pub next-number : (vs : List ℕ) (i : ℕ) → i < length vs → numbersText (drop i vs) ≡ (comma ∷ decimal (getD vs i 0)) ++ numbersText (drop (i + 1) vs)
+next-number : (vs : List ℕ) (i : ℕ) → i < length vs → numbersText (drop i vs) ≡ (comma ∷ decimal (getD vs i 0)) ++ numbersText (drop (i + 1) vs)
 next-number vs i h = rw (add-one i, drop-cons vs i 0 h)
 
 pub next-number-length : (vs : List ℕ) (i : ℕ) → i < length vs
@@ -92,13 +92,8 @@ pub length-mapped : {X Y : Type 0} (f : X → Y) (l : List X) (n : ℕ) → leng
 length-mapped f l n e = sym (length-map l f) ∙ e
 
 -- as many records of an array as are counted
-counted-same : {X : Type 0} (n : ℕ) (l : List X) → take (length (take n l)) l ≡ take n l
-counted-same zero l = refl
-counted-same (suc n) [] = refl
-counted-same (suc n) (x ∷ l) = ap (λ (r : List _). x ∷ r) (counted-same n l)
-
-pub counted : {X : Type 0} (n total : ℕ) (l array : List X) → total ≡ length (take n l) → array ≡ l → take total array ≡ take n l
-counted n total l array e same = rw (e, same) (counted-same n l)
+pub counted : {X : Type 0} (l array : List X) (total : ℕ) → total ≡ length l → take (length l) array ≡ l → take total array ≡ l
+counted l array total e same = rw e same
 
 -- ---- the whole text, in its three parts
 pub text-length : (n : Network) → length (textOf n)

@@ -1,5 +1,5 @@
--- `buses_size` meets its contract. The invariant: the size so far and what the rows that are left take make the whole; and no row has
--- more than 213 bytes. The measure is how many rows are left.
+-- `buses_size` meets its contract. The invariant: the size so far and what the rows that are left take make the whole. That no row has
+-- more than 213 bytes keeps the sum in range. The measure is how many rows are left.
 use mathlib.Core.Path.{_≡_, ap}
 use Prim.Native.Nat.{_+_, _-_, _≤_}
 use native.Mathlib.Omega.{arith}

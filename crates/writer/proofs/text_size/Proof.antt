@@ -9,7 +9,6 @@ use Rattle.reader.specs.File.{letterS, letterB, letterP}
 use Rattle.writer.specs.Text.{busNumbers, sourceNumbers, endedRow, recordRows}
 use Rattle.writer.proofs.NextRow.{length-mapped, counted, numbers-most, ended-row-length, record-rows-most, text-length}
 use borrow.Author.Needs.{needs}
-use borrow.Author.Needs.{needs}
 use Rattle.writer.proofs.text_size.Statement.{statement}
 use Rattle.writer.proofs.text_size.Tie as tie
 
@@ -94,8 +93,8 @@ returns : tie.Need-returns
 returns c =
     let s = c .before .before .before .before .before .before .before .before .before .args .s in
     let start = c .before .before .before .before .before .before .row-size .ensures letterS ∙ ap (λ (t : ℕ). length (endedRow letterS (t ∷ []))) (c .before .before .before .before .before .before .before .before .tolerance-of .ensures) in
-    let buses = c .before .before .before .buses-size .ensures ∙ ap (λ (l : List _). length (recordRows letterB busNumbers l)) (counted (s .«bus_count») _ (s .buses) _ (c .before .before .before .before .bus-total .ensures) (c .before .before .before .before .before .buses-of .ensures)) in
-    let sources = c .sources-size .ensures ∙ ap (λ (l : List _). length (recordRows letterP sourceNumbers l)) (counted (s .«source_count») _ (s .sources) _ (c .before .source-total .ensures) (c .before .before .sources-of .ensures)) in
+    let buses = c .before .before .before .buses-size .ensures ∙ ap (λ (l : List _). length (recordRows letterB busNumbers l)) (counted (network s .buses) _ _ (c .before .before .before .before .bus-total .ensures) (c .before .before .before .before .before .buses-of .ensures)) in
+    let sources = c .sources-size .ensures ∙ ap (λ (l : List _). length (recordRows letterP sourceNumbers l)) (counted (network s .sources) _ _ (c .before .source-total .ensures) (c .before .before .sources-of .ensures)) in
     omega (arith, text-length (network s))
 
 pub text-size-spec : {M : Type 1} → statement M

@@ -5,7 +5,6 @@ use borrow.Author.Tests.{not-true, not-false, ltb-true, ltb-false}
 use Rattle.network.specs.Network.{network}
 use Rattle.writer.specs.laws.WriteCases.{open-number, short-number, no-ground}
 use borrow.Author.Needs.{needs}
-use borrow.Author.Needs.{needs}
 use Rattle.writer.proofs.write_number.Statement.{statement}
 use Rattle.writer.proofs.write_number.Tie as tie
 
