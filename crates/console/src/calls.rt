@@ -1,6 +1,7 @@
 // The calls. Each takes the study, what stands after its word, and gives the study after it.
 ghost use mathlib.Core.Path.{_≡_};
 ghost use lib.ListN.{length, replicate};
+ghost use Rattle.network.specs.Grounds.{afterClose};
 ghost use Rattle.network.specs.Network.{network};
 ghost use Rattle.writer.specs.Writing.{afterWrite};
 ghost use Rattle.console.specs.Answers.{filler};
@@ -74,13 +75,17 @@ fn make_source(s: Study, rest: &[u8]) -> Study {
     s
 }
 
-fn make_close(s: Study) -> Study {
+fn make_close(s: Study) -> Study
+    ensures { λ r. ⌜ network r ≡ afterClose (network s) ⌝ }
+{
     let done = network::close(s);
     print_number(done.number);
     done.study
 }
 
-fn make_query(s: Study, rest: &[u8]) -> Study {
+fn make_query(s: Study, rest: &[u8]) -> Study
+    ensures { λ r. ⌜ r ≡ s ⌝ }
+{
     let n = numbers_of(rest);
     let v = n.values;
     if takes(n, 1) {
