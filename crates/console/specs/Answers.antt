@@ -51,15 +51,15 @@ unfoldable pub hexText : List ℕ → List ℕ
 hexText [] = []
 hexText (b ∷ bytes) = hexByte b ++ hexText bytes
 
--- "number, length" and the comma before HEX
+-- "number, LENGTH" and the comma before HEX
 unfoldable pub writtenHead : ℕ → ℕ → List ℕ
 writtenHead number size = decimal number ++ nextText size ++ (comma ∷ [])
 
--- "number, length and HEX, the whole lent room"
+-- "number, LENGTH and HEX, all ROOM lent bytes"
 unfoldable pub writtenLine : ℕ → ℕ → List ℕ → List ℕ
 writtenLine number size lent = writtenHead number size ++ hexText lent ++ (lf ∷ [])
 
--- CR, LF and 0x55 are `0d0a55`; no room for a closed study is `30,0,`
+-- CR, LF and 0x55 are `0d0a55`; a closed study with no byte lent is `30,0,`
 worked : (hexText (13 ∷ 10 ∷ 85 ∷ []) ≡ 48 ∷ 100 ∷ 48 ∷ 97 ∷ 53 ∷ 53 ∷ []) × (writtenLine 30 0 [] ≡ 51 ∷ 48 ∷ 44 ∷ 48 ∷ 44 ∷ 10 ∷ [])
 unfolding hexDigit hexText writtenHead writtenLine decimal nextText
 worked = (refl, refl)
@@ -70,7 +70,7 @@ chunk = 128
 
 -- how many chunks so many bytes have; the last may be empty
 abbrev pub chunkCount : ℕ → ℕ
-chunkCount size = size / chunk + 1
+chunkCount count = count / chunk + 1
 
 -- the bytes of one of them, counted from 0
 unfoldable pub chunkOf : ℕ → List ℕ → List ℕ

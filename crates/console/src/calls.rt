@@ -1,6 +1,7 @@
 // The calls. Each takes the study, what stands after its word, and gives the study after it.
 ghost use mathlib.Core.Path.{_≡_};
 ghost use lib.ListN.{length, replicate};
+ghost use Rattle.network.specs.Grounds.{afterClose};
 ghost use Rattle.network.specs.Network.{network};
 ghost use Rattle.writer.specs.Writing.{afterWrite};
 ghost use Rattle.console.specs.Answers.{filler};
@@ -11,7 +12,6 @@ use crate::answers::print_reading;
 use crate::hex::Decoded;
 use crate::hex::TEXT;
 use crate::hex::decode;
-use crate::hex::fill;
 use crate::hex::text_of;
 use crate::parts::print_written;
 use crate::words::after;
@@ -75,13 +75,17 @@ fn make_source(s: Study, rest: &[u8]) -> Study {
     s
 }
 
-fn make_close(s: Study) -> Study {
+fn make_close(s: Study) -> Study
+    ensures { λ r. ⌜ network r ≡ afterClose (network s) ⌝ }
+{
     let done = network::close(s);
     print_number(done.number);
     done.study
 }
 
-fn make_query(s: Study, rest: &[u8]) -> Study {
+fn make_query(s: Study, rest: &[u8]) -> Study
+    ensures { λ r. ⌜ r ≡ s ⌝ }
+{
     let n = numbers_of(rest);
     let v = n.values;
     if takes(n, 1) {
@@ -102,7 +106,18 @@ fn make_read(s: Study, rest: &[u8], text: &mut [u8; TEXT]) -> Study {
     reading.study
 }
 
-// The whole room is printed, so that what the call keeps of it is seen too.
+// Gives each lent byte one value, so that the bytes that the call keeps are seen to be kept.
+fn fill(lent: &mut [u8])
+    ensures { λ _. ⌜ now (lent .exit) ≡ replicate (length (now (lent .entry))) filler ⌝ }
+{
+    let mut i: usize = 0;
+    while i < lent.len() {
+        lent[i] = 0x55;
+        i += 1;
+    }
+}
+
+// All lent bytes are printed, so that those that the call keeps are seen too.
 fn write_into(s: Study, lent: &mut [u8])
     ensures { λ _. ⌜ now (lent .exit) ≡ afterWrite (network s) (replicate (length (now (lent .entry))) filler) ⌝ }
 {
@@ -117,9 +132,9 @@ fn make_write(s: Study, rest: &[u8], text: &mut [u8]) -> Study
     let n = numbers_of(rest);
     let v = n.values;
     if takes(n, 1) {
-        let room = v[0] as usize;
-        if room <= text.len() {
-            write_into(s, &mut text[0..room]);
+        let count = v[0] as usize;
+        if count <= text.len() {
+            write_into(s, &mut text[0..count]);
         } else {
             print_error(b"room");
         }

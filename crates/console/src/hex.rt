@@ -1,14 +1,13 @@
 // Text in hexadecimal digits.
 ghost use mathlib.Core.Path.{_≡_};
 ghost use Prim.Native.Nat.{_<_};
-ghost use lib.ListN.{length, replicate};
 ghost use Rattle.printing.specs.Line.{afterText};
-ghost use Rattle.console.specs.Answers.{filler, hexDigit, hexByte, hexText};
+ghost use Rattle.console.specs.Answers.{hexDigit, hexByte, hexText};
 use crate::input::part;
 use printing::LINE;
 use printing::put;
 
-// Room for the text of the longest line, and for what a call is lent.
+// Enough bytes for the text of the longest line; and the most that a call is lent.
 pub(crate) const TEXT: usize = 70_000;
 
 // How many bytes the digits give, unless they are not pairs of hexadecimal digits.
@@ -75,17 +74,6 @@ pub(crate) fn decode(digits: &[u8], text: &mut [u8; TEXT]) -> Decoded {
 // The bytes of the text.
 pub(crate) fn text_of(text: &[u8; TEXT], length: usize) -> &[u8] {
     part(text, length)
-}
-
-// Fills a room that is lent to a call, so that the bytes that the call keeps are seen to be kept.
-pub(crate) fn fill(room: &mut [u8])
-    ensures { λ _. ⌜ now (room .exit) ≡ replicate (length (now (room .entry))) filler ⌝ }
-{
-    let mut i: usize = 0;
-    while i < room.len() {
-        room[i] = 0x55;
-        i += 1;
-    }
 }
 
 // The digit of half a byte.

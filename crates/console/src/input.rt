@@ -1,14 +1,14 @@
-// Lines of standard input, by way of a chunk of its bytes.
+// Lines of standard input, by way of a block of its bytes.
 ghost use mathlib.Core.Path.{_≡_};
 ghost use lib.ListN.{take};
 use libc::STDIN_FILENO;
 
-pub(crate) const CHUNK: usize = 4096;
+pub(crate) const BLOCK: usize = 4096;
 
 // Room for the longest line, the CR of its end and one byte more, by which a longer line is seen to be longer.
 pub(crate) const LINE_ROOM: usize = 140_002;
 
-// The bytes of the chunk that are not used yet: from `at` up to `filled`.
+// The bytes of the block that are not used yet: from `at` up to `filled`.
 pub(crate) struct Cursor {
     pub at: usize,
     pub filled: usize,
@@ -28,28 +28,28 @@ pub(crate) struct Line {
     pub cursor: Cursor,
 }
 
-// Fills the chunk anew, and gives the number of bytes, 0 at the end of the input.
-fn refill(chunk: &mut [u8]) -> usize {
-    let got = libc::read(STDIN_FILENO, chunk);
-    io::count(got, chunk)
+// Fills the block anew, and gives the number of bytes, 0 at the end of the input.
+fn refill(block: &mut [u8]) -> usize {
+    let got = libc::read(STDIN_FILENO, block);
+    io::count(got, block)
 }
 
-fn first_byte(chunk: &mut [u8; CHUNK]) -> Step {
-    let filled = refill(chunk);
+fn first_byte(block: &mut [u8; BLOCK]) -> Step {
+    let filled = refill(block);
     Step {
         ended: filled == 0,
-        byte: chunk[0],
+        byte: block[0],
         cursor: Cursor { at: 1, filled },
     }
 }
 
-fn next_byte(chunk: &mut [u8; CHUNK], cursor: Cursor) -> Step {
+fn next_byte(block: &mut [u8; BLOCK], cursor: Cursor) -> Step {
     let at = cursor.at;
     if at < cursor.filled {
-        if at < CHUNK {
+        if at < BLOCK {
             return Step {
                 ended: false,
-                byte: chunk[at],
+                byte: block[at],
                 cursor: Cursor {
                     at: at + 1,
                     filled: cursor.filled,
@@ -57,7 +57,7 @@ fn next_byte(chunk: &mut [u8; CHUNK], cursor: Cursor) -> Step {
             };
         }
     }
-    first_byte(chunk)
+    first_byte(block)
 }
 
 // The length without a CR that ends the line.
@@ -74,7 +74,7 @@ fn without_return(line: &[u8; LINE_ROOM], length: usize) -> usize {
 
 // Reads up to an LF or the end of the input. Of a line that is longer than the room the first bytes are kept.
 pub(crate) fn read_line(
-    chunk: &mut [u8; CHUNK],
+    block: &mut [u8; BLOCK],
     cursor: Cursor,
     line: &mut [u8; LINE_ROOM],
 ) -> Line {
@@ -83,7 +83,7 @@ pub(crate) fn read_line(
     let mut turns = u64::MAX;
     while turns > 0 {
         turns -= 1;
-        let step = next_byte(chunk, here);
+        let step = next_byte(block, here);
         here = step.cursor;
         if step.ended {
             return Line {

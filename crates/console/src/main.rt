@@ -27,7 +27,7 @@ fn answer(s: Study, line: &[u8], text: &mut [u8; hex::TEXT]) -> Study {
 }
 
 fn main() {
-    let mut chunk = [0u8; input::CHUNK];
+    let mut block = [0u8; input::BLOCK];
     let mut line = [0u8; LINE_ROOM];
     let mut text = [0u8; hex::TEXT];
     let empty = network::start(6);
@@ -36,7 +36,7 @@ fn main() {
     let mut turns = u64::MAX;
     while turns > 0 {
         turns -= 1;
-        let got = read_line(&mut chunk, cursor, &mut line);
+        let got = read_line(&mut block, cursor, &mut line);
         if got.ended {
             return;
         }

@@ -1,4 +1,4 @@
-// Answers of any length: parts, each put at the start of a line of its own and written before the next is put, and LF behind the last.
+// Answers of any length: one line of output in parts, each put into an array and written before the next; LF comes last.
 ghost use mathlib.Core.Path.{_≡_};
 ghost use Prim.Native.Nat.{_*_, _≤_};
 ghost use lib.ListN.{length, take};
@@ -37,10 +37,10 @@ fn put_chunk(line: &mut [u8; LINE], bytes: &[u8], k: usize) -> usize
 }
 
 // How many chunks so many bytes have; the last may be empty.
-fn chunks(size: usize) -> usize
-    ensures { λ r. ⌜ r ≡ chunkCount size ⌝ }
+fn chunks(count: usize) -> usize
+    ensures { λ r. ⌜ r ≡ chunkCount count ⌝ }
 {
-    size / CHUNK + 1
+    count / CHUNK + 1
 }
 
 fn write_head(number: u32, size: usize) {
@@ -58,15 +58,15 @@ fn write_chunk(bytes: &[u8], k: usize)
 }
 
 fn write_hex(bytes: &[u8]) {
-    let count = chunks(bytes.len());
+    let total = chunks(bytes.len());
     let mut k: usize = 0;
-    while k < count {
+    while k < total {
         write_chunk(bytes, k);
         k += 1;
     }
 }
 
-// What a call gave that was lent a room, and the whole room after it.
+// What a call gave that was lent bytes, and all of these after it.
 pub(crate) fn print_written(number: u32, size: usize, lent: &[u8]) {
     write_head(number, size);
     write_hex(lent);

@@ -1,4 +1,4 @@
--- `console::calls::write_into` meets its contract: the room that `write` is lent is filled. Assumes nothing.
+-- `console::calls::write_into` meets its contract: the bytes that `write` is lent are filled. Assumes nothing.
 use mathlib.Core.Path.{ap, _∙_}
 use borrow.Author.Needs.{needs}
 use Rattle.network.specs.Network.{network}

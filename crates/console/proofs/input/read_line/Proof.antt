@@ -4,10 +4,10 @@ use Rattle.console.proofs.input.read_line.Statement.{statement}
 use Rattle.console.proofs.input.read_line.Tie as tie
 
 abbrev Inv-loop : tie.InvT-loop
-Inv-loop chunk₀ line₀ here₀ length₀ turns₀ chunk line here length turns = Unit {0}
+Inv-loop block₀ line₀ here₀ length₀ turns₀ block line here length turns = Unit {0}
 
 abbrev μ-loop : tie.MeasureT-loop
-μ-loop chunk₀ line₀ here₀ length₀ turns₀ chunk line here length turns = turns
+μ-loop block₀ line₀ here₀ length₀ turns₀ block line here length turns = turns
 
 loop-holds : tie.Need-loop-holds Inv-loop μ-loop
 loop-holds c = search needs

@@ -1,5 +1,5 @@
 -- `console::parts::put_chunk` meets its contract: the bytes are those of the chunk, and there is room for their digits. Assumes nothing.
-use mathlib.Core.Path.{_≡_, ap, _∙_}
+use mathlib.Core.Path.{ap, _∙_}
 use mathlib.Core.List.{List}
 use Prim.Native.Nat.{ℕ}
 use lib.ListN.{take}

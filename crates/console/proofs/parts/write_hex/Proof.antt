@@ -2,8 +2,6 @@
 -- Assumes nothing.
 use mathlib.Core.Path.{_≡_}
 use Prim.Native.Nat.{_-_}
-use native.Mathlib.Nat.{div-add-mod'}
-use native.Mathlib.Omega.{arith}
 use lib.ListN.{length}
 use borrow.Author.Needs.{needs}
 use Rattle.console.specs.Answers.{chunkCount}
@@ -11,10 +9,10 @@ use Rattle.console.proofs.parts.write_hex.Statement.{statement}
 use Rattle.console.proofs.parts.write_hex.Tie as tie
 
 abbrev Inv-loop : tie.InvT-loop
-Inv-loop bytes count k₀ k = count ≡ chunkCount (length bytes)
+Inv-loop bytes total k₀ k = total ≡ chunkCount (length bytes)
 
 abbrev μ-loop : tie.MeasureT-loop
-μ-loop bytes count k₀ k = count - k
+μ-loop bytes total k₀ k = total - k
 
 chunks-requires : tie.Need-chunks-requires Inv-loop μ-loop
 chunks-requires c κs = search needs
