@@ -32,7 +32,7 @@ def text_in(said):
     return lent[:length]
 
 
-def in_order(text, buses):
+def proved_text(text, buses):
     """The text of an accepted study, in order. `buses` is the program's answer to it, and has to be its answer to the result."""
     said = output(CONSOLE, b"read,%b\nwrite,%d\n" % (text.hex().encode(), ROOM)).split("\n")
     if len(said) != 3 or said[-1]:
