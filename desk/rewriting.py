@@ -106,6 +106,13 @@ def bus_and_source_counts(text):
     return f"{buses} {'bus' if buses == 1 else 'buses'}, {sources} {'source' if sources == 1 else 'sources'}, "
 
 
+def nameless(source):
+    """What becomes of a plan's names; of one that came on standard input they may be kept nowhere."""
+    if source == "-":
+        return "Rows have no names: the buses' names are not in the result."
+    return f"The buses' names stand in {source} alone; rows have none."
+
+
 def in_rows(source, target, force, exact):
     """Rows or a plan as the proved writer puts them down: S, all buses, all sources."""
     def make(study, got):
@@ -114,6 +121,6 @@ def in_rows(source, target, force, exact):
         notes = [f"Written: {counts}{len(content):,} bytes."] if target == "-" else []
         notes.append(rounded(study))
         if study.names:
-            notes.append(f"The buses' names stand in {files.name_of(source)} alone; rows have none.")
+            notes.append(nameless(source))
         return written(content, target, force, "\n".join(filter(None, notes)), counts)
     return with_accepted(source, target, exact, make)
