@@ -56,7 +56,8 @@ options
         current, the peak and the verdict of each bus, by colour, letter and shape. A browser opens and prints it.
         With --toml, --rows, --write and --svg, roundings and refusals go to standard error.
     --force
-        With --fix, --toml, --rows, --write and --svg: OUT is overwritten where it is there already. IN is never changed.
+        With --fix, --toml, --rows, --write and --svg: OUT is overwritten where it is there already. It keeps its permissions,
+        and stays as it is until the new text is whole, so that a full disk or Ctrl-C does not cost it. IN is never changed.
     --help, --version
         This text; the name and the revision.
     --
