@@ -45,7 +45,8 @@ options
         Writes rows that the program accepts as a plan, in which the buses are called bus 0, bus 1 and so on. Without OUT,
         or with `-`, it goes to standard output.
     --rows IN [OUT]
-        Writes a plan as rows, with CRLF, in the same way. Only rows that the program accepts are written.
+        Writes a plan as rows, with CRLF, in the same way. Only rows that the program accepts are written. They are the same
+        bytes that --write gives for the plan.
     --write IN [OUT]
         Writes rows or a plan as tidy rows, in the same way: S, all buses, all sources, each row with CRLF. Buses and sources
         keep their order, so that no bus gets another number. It says how many there are and how many bytes, on standard
