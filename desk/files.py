@@ -82,7 +82,7 @@ def file_behind(path):
 
 def is_handed(there):
     """Whether a file was handed to us open, as /dev/stdout or /dev/fd/3 name it: who did so goes on with that very file."""
-    for number in os.listdir("/dev/fd"):
+    for number in os.listdir("/dev/fd") if os.path.isdir("/dev/fd") else []:  # without this folder no name leads to such a file
         with contextlib.suppress(OSError):  # the one that the folder itself was read by is closed again
             if number != "0" and os.path.samestat(os.fstat(int(number)), there):
                 return True

@@ -38,7 +38,8 @@ def proved_text(text, buses):
     if len(said) != 3 or said[-1]:
         raise Trouble(f"{CONSOLE} was given two lines, and did not answer with two")
     if said[0] != "0,0":
-        raise Trouble(f"{CONSOLE} was to read the study, which {PROGRAM.name} accepts, and answered {shown(said[0].encode())}{ANEW}")
+        raise Trouble(f"{CONSOLE} was to read the study, which {PROGRAM.name} accepts, and answered {shown(said[0].encode())}"
+                      + ANEW)
     result = text_in(said[1])
     if answer(result) != buses:
         raise Trouble(f"{CONSOLE} wrote a study that {PROGRAM.name} answers otherwise than the one that it read")
