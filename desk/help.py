@@ -58,7 +58,8 @@ options
         With --toml, --rows, --write and --svg, roundings and refusals go to standard error.
     --force
         With --fix, --toml, --rows, --write and --svg: OUT is overwritten where it is there already. It keeps its permissions,
-        and stays as it is until the new text is whole, so that a full disk or Ctrl-C does not cost it. IN is never changed.
+        and stays as it is until the new text is whole, so that a full disk or Ctrl-C does not cost it; only where its folder
+        lets no other file take its place is it written into. IN is never changed.
     --help, --version
         This text; the name and the revision.
     --
