@@ -45,7 +45,8 @@ options
         Writes rows that the program accepts as a plan, in which the buses are called bus 0, bus 1 and so on. Without OUT,
         or with `-`, it goes to standard output.
     --rows IN [OUT]
-        Writes a plan as rows, with CRLF, in the same way. Only rows that the program accepts are written.
+        Writes a plan as rows, with CRLF, in the same way. Only rows that the program accepts are written. They are the same
+        bytes that --write gives for the plan.
     --write IN [OUT]
         Writes rows or a plan as tidy rows, in the same way: S, all buses, all sources, each row with CRLF. Buses and sources
         keep their order, so that no bus gets another number. It says how many there are and how many bytes, on standard
@@ -56,7 +57,9 @@ options
         current, the peak and the verdict of each bus, by colour, letter and shape. A browser opens and prints it.
         With --toml, --rows, --write and --svg, roundings and refusals go to standard error.
     --force
-        With --fix, --toml, --rows, --write and --svg: OUT is overwritten where it is there already. IN is never changed.
+        With --fix, --toml, --rows, --write and --svg: OUT is overwritten where it is there already. It keeps its permissions,
+        and stays as it is until the new text is whole, so that a full disk or Ctrl-C does not cost it; only where its folder
+        lets no other file take its place is it written into. IN is never changed.
     --help, --version
         This text; the name and the revision.
     --

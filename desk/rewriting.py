@@ -8,7 +8,7 @@ from desk.records import listed, rows_of
 from desk.streams import Answer
 from desk.studies import Study, from_plan, is_plan, mistaken, refused, rounded
 from desk.trouble import Trouble
-from desk.writer import in_order
+from desk.writer import proved_text
 
 
 def source_of(source, target):
@@ -99,21 +99,28 @@ def with_accepted(source, target, exact, make):
     return make(study, got)
 
 
-def counted(text):
+def bus_and_source_counts(text):
     """The buses and the sources of a text, in words that more follows."""
     letters = [row[:1] for row in rows_of(text)]
     buses, sources = letters.count(b"B"), letters.count(b"P")
     return f"{buses} {'bus' if buses == 1 else 'buses'}, {sources} {'source' if sources == 1 else 'sources'}, "
 
 
+def nameless(source):
+    """What becomes of a plan's names; of one that came on standard input they may be kept nowhere."""
+    if source == "-":
+        return "Rows have no names: the buses' names are not in the result."
+    return f"The buses' names stand in {source} alone; rows have none."
+
+
 def in_rows(source, target, force, exact):
     """Rows or a plan as the proved writer puts them down: S, all buses, all sources."""
     def make(study, got):
-        content = in_order(study.rows, got)
-        counts = counted(content)
+        content = proved_text(study.rows, got)
+        counts = bus_and_source_counts(content)
         notes = [f"Written: {counts}{len(content):,} bytes."] if target == "-" else []
         notes.append(rounded(study))
         if study.names:
-            notes.append(f"The buses' names stand in {files.name_of(source)} alone; rows have none.")
+            notes.append(nameless(source))
         return written(content, target, force, "\n".join(filter(None, notes)), counts)
     return with_accepted(source, target, exact, make)
