@@ -1,12 +1,15 @@
 """The gate of this repository, started by ./test; README.md says how it decides.
 
-Prints what each part prints, then a table of the parts, the reasons of failure, and last `N passed, M failed`."""
+Prints what each part prints, then a table of the parts, the reasons of failure, and last `N passed, M failed`. The tests of tests/ run
+side by side, and print in order."""
 import os
 import re
 import shutil
 import subprocess
 import sys
 import time
+from concurrent.futures import ThreadPoolExecutor
+from itertools import chain
 from pathlib import Path
 
 from edits import listed_edits, quick_refusals, read, refusals
@@ -14,18 +17,20 @@ from edits import listed_edits, quick_refusals, read, refusals
 COUNT = re.compile(r"(\d+) passed, (\d+) failed")
 
 
-def run(command):
-    """Runs a command and passes on what it prints: its status, its lines, and the count on its last line, if it has one."""
+def run(command, show=True):
+    """Runs a command: its status, its lines, and the count on its last line, if it has one. Its lines are passed on as they come."""
     lines = []
     try:
         child = subprocess.Popen(command, stdin=subprocess.DEVNULL, stdout=subprocess.PIPE, stderr=subprocess.STDOUT,
                                  encoding="utf-8", errors="replace")
     except OSError as error:
-        print(error)
+        if show:
+            print(error)
         return 127, [str(error)], None
     with child:
         for line in child.stdout:
-            print(line, end="")
+            if show:
+                print(line, end="")
             lines.append(line.rstrip("\n"))
     count = COUNT.fullmatch(lines[-1]) if lines else None
     return child.returncode, lines, count and (int(count[1]), int(count[2]))
@@ -100,11 +105,8 @@ def prove(crates, edits):
 
 # ---- the other tests
 
-def try_test(path):
-    """Runs one test of tests/ and takes the count on its last line."""
-    if not os.access(path, os.X_OK):
-        return 0, 1, [f"{path}: it is not executable"]
-    status, _, count = run([f"./{path}"])
+def judged(path, status, count):
+    """What a test that ran counts, and the reasons why it fails."""
     passed, failed = count or (0, 1)
     reasons = []
     if not count:
@@ -114,6 +116,33 @@ def try_test(path):
     if status != 0:
         reasons.append(f"{path}: it ended with status {status}")
     return passed, failed, reasons
+
+
+def try_test(path):
+    """Runs one test of tests/: its lines, what it counts, why it fails, and the seconds that it took."""
+    if not os.access(path, os.X_OK):
+        return [], (0, 1, [f"{path}: it is not executable"]), 0
+    began = time.monotonic()
+    status, lines, count = run([f"./{path}"], show=False)
+    return lines, judged(path, status, count), time.monotonic() - began
+
+
+def tests():
+    """The tests, a processor each, up to four at a time; each is given in turn, once it is done and what it printed is shown."""
+    paths = sorted(Path("tests").glob("check-*"))
+    with ThreadPoolExecutor(max(1, min(4, os.cpu_count() or 1))) as pool:
+        for path, (lines, result, seconds) in zip(paths, pool.map(try_test, paths)):
+            print("\n".join([f"---- {path}", *lines]))
+            yield str(path), result, seconds
+
+
+def first_parts(crates, edits):
+    """The crates and the must-fail edits, one after the other: what each counts, why it fails, and its seconds."""
+    for name, work, *arguments in (("crates (rt ci)", prove, crates, edits), ("must-fail edits (rt ci)", refusals, edits),
+                                   ("must-fail edits (rt dev)", quick_refusals)):
+        print(f"---- {name}")
+        began = time.monotonic()
+        yield name, work(*arguments), time.monotonic() - began
 
 
 def main():
@@ -126,16 +155,10 @@ def main():
     if reasons:
         print("Nothing was proved or run: the repository's files are to be put right first.")
     else:
-        parts = [("crates (rt ci)", prove, crates, edits), ("must-fail edits (rt ci)", refusals, edits),
-                 ("must-fail edits (rt dev)", quick_refusals)]
-        parts += [(str(path), try_test, path) for path in sorted(Path("tests").glob("check-*"))]
         table = [("part", "passed", "failed", "seconds")]
-        for name, work, *arguments in parts:
-            print(f"---- {name}")
-            began = time.monotonic()
-            good, bad, why = work(*arguments)
+        for name, (good, bad, why), seconds in chain(first_parts(crates, edits), tests()):
             bad = max(bad, 1 if why else 0)
-            table.append((name, good, bad, round(time.monotonic() - began)))
+            table.append((name, good, bad, round(seconds)))
             passed, failed, reasons = passed + good, failed + bad, reasons + why
         print("----")
         for row in table:
