@@ -14,7 +14,7 @@ endedRows (r ∷ rs) = r ++ (cr ∷ lf ∷ endedRows rs)
 abbrev pub rowsOf : ℕ → List (List ℕ) → List (List ℕ) → List (List ℕ)
 rowsOf tolerance buses sources = rowText letterS (tolerance ∷ []) ∷ (map (rowText letterB) buses ++ map (rowText letterP) sources)
 
-ended-both : (a b : List (List ℕ)) → endedRows (a ++ b) ≡ endedRows a ++ endedRows b
+pub ended-both : (a b : List (List ℕ)) → endedRows (a ++ b) ≡ endedRows a ++ endedRows b
 ended-both [] b = refl
 ended-both (r ∷ a) b = rw (ended-both a b) (sym (append-assoc r (cr ∷ lf ∷ endedRows a) (endedRows b)))
 
