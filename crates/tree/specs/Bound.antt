@@ -101,11 +101,12 @@ through-most Q P G b i y h =
 over-most : (Q P : ℕ) (joins : ℕ → Bool) (f : ℕ → Point) (x : Point) (k m : ℕ) → AtMost Q k x → ((i : ℕ) → i < m → joins i ≡ true → AtMost Q P (f i))
     → AtMost Q (k + P * m) (over sum joins f x m)
 over-most Q P joins f x k zero r h = most-more Q k (k + P * 0) x (omega arith) r
-over-most Q P joins f x k (suc m) r h = go (joins m) refl (over-most Q P joins f x k m r (λ i l. h i (omega arith)))
+over-most Q P joins f x k (suc m) r h =
+    most-more Q (k + P + P * m) _ _ (omega (arith, mul-suc P m)) (over-most Q P joins f _ (k + P) m (go (joins m) refl) (λ i l. h i (omega arith)))
   where
-    go : (t : Bool) → joins m ≡ t → AtMost Q (k + P * m) (over sum joins f x m) → AtMost Q (k + P * suc m) (cond t (sum (over sum joins f x m) (f m)) (over sum joins f x m))
-    go true e q = most-more Q (k + P * m + P) _ _ (omega (arith, mul-suc P m)) (most-sum Q _ _ _ _ q (h m (omega arith) e))
-    go false e q = most-more Q (k + P * m) _ _ (omega (arith, mul-suc P m)) q
+    go : (t : Bool) → joins m ≡ t → AtMost Q (k + P) (cond t (sum x (f m)) x)
+    go true e = most-sum Q _ _ _ _ r (h m (omega arith) e)
+    go false e = most-more Q k (k + P) _ (omega arith) r
 
 -- THE SIZE OF WHAT IS SEEN at a bus: what stands there itself, and P/Q for each bus
 pub seen-most : (G : Grid) (b Q S P : ℕ) → AtMost Q S (G .own b) → ((i : ℕ) → i < G .count → joined (parentOf G) b i ≡ true → AtLeast Q P (referred G b i))

@@ -26,11 +26,11 @@ through-proper G b i y = through-cases exact (λ j. G .branch j .z) G b i y (λ 
 
 over-proper : (joins : ℕ → Bool) (f : ℕ → Point) (x : Point) (m : ℕ) → 0 < x .den → ((i : ℕ) → 0 < f i .den) → 0 < over sum joins f x m .den
 over-proper joins f x zero z h = z
-over-proper joins f x (suc m) z h = go (joins m) (over-proper joins f x m z h)
+over-proper joins f x (suc m) z h = over-proper joins f _ m (go (joins m)) h
   where
-    go : (s : Bool) → 0 < over sum joins f x m .den → 0 < cond s (sum (over sum joins f x m) (f m)) (over sum joins f x m) .den
-    go true q = mul-pos q (h m)
-    go false q = q
+    go : (s : Bool) → 0 < cond s (sum x (f m)) x .den
+    go true = mul-pos z (h m)
+    go false = z
 
 -- ---- a point with an imaginary part
 record Fed (x : Point) : Type 0 where
@@ -57,24 +57,24 @@ fed-inverse x h = go (isNothing x) refl
     go true e = absurd (fed-some x h e)
     go false e = record { proper = norm-pos (x .re) (x .im) (eqb-false (x .re + x .im) 0 e); reactive = mul-pos (h .reactive) (h .proper) }
 
+over-start : (joins : ℕ → Bool) (f : ℕ → Point) (x : Point) (m : ℕ) → Fed x → ((i : ℕ) → 0 < f i .den) → Fed (over sum joins f x m)
+over-start joins f x zero g h = g
+over-start joins f x (suc m) g h = over-start joins f _ m (go (joins m)) h
+  where
+    go : (s : Bool) → Fed (cond s (sum x (f m)) x)
+    go true = fed-left x (f m) g (h m)
+    go false = g
+
 -- one that is fed feeds the sum
 over-fed : (joins : ℕ → Bool) (f : ℕ → Point) (x : Point) (u m : ℕ) → 0 < x .den → ((i : ℕ) → 0 < f i .den) → joins u ≡ true → Fed (f u) → u < m → Fed (over sum joins f x m)
 over-fed joins f x u zero z h j g l = absurd (omega arith)
-over-fed joins f x u (suc m) z h j g l = go (joins m) (eqb u m) refl refl (over-fed joins f x u m z h j g)
+over-fed joins f x u (suc m) z h j g l = go (joins m) (eqb u m) refl refl (λ y d k. over-fed joins f y u m d h j g k)
   where
-    go : (s t : Bool) → joins m ≡ s → eqb u m ≡ t → (u < m → Fed (over sum joins f x m)) → Fed (cond s (sum (over sum joins f x m) (f m)) (over sum joins f x m))
-    go true true e q r = fed-right (over sum joins f x m) (f m) (over-proper joins f x m z h) (rw (eqb-true u m q) at g)
-    go true false e q r = fed-left (over sum joins f x m) (f m) (r (omega (arith, eqb-false u m q))) (h m)
+    go : (s t : Bool) → joins m ≡ s → eqb u m ≡ t → ((y : Point) → 0 < y .den → u < m → Fed (over sum joins f y m)) → Fed (over sum joins f (cond s (sum x (f m)) x) m)
+    go true true e q r = over-start joins f _ m (fed-right x (f m) z (rw (eqb-true u m q) at g)) h
+    go true false e q r = r _ (mul-pos z (h m)) (omega (arith, eqb-false u m q))
     go false true e q r = let w : joins m ≡ true = rw (eqb-true u m q) at j in let c : _≡_ {A = ℕ} 0 1 = cc in absurd (omega arith)
-    go false false e q r = r (omega (arith, eqb-false u m q))
-
-over-start : (joins : ℕ → Bool) (f : ℕ → Point) (x : Point) (m : ℕ) → Fed x → ((i : ℕ) → 0 < f i .den) → Fed (over sum joins f x m)
-over-start joins f x zero g h = g
-over-start joins f x (suc m) g h = go (joins m) (over-start joins f x m g h)
-  where
-    go : (s : Bool) → Fed (over sum joins f x m) → Fed (cond s (sum (over sum joins f x m) (f m)) (over sum joins f x m))
-    go true q = fed-left (over sum joins f x m) (f m) q (h m)
-    go false q = q
+    go false false e q r = r x z (omega (arith, eqb-false u m q))
 
 module _ (G : Grid) (tree : Treelike G) (proper : Proper G) where
   fed-through : (b i : ℕ) (y : Point) → b < G .count → i < G .count → joined (parentOf G) b i ≡ true → Fed y → Fed (through exact (λ j. G .branch j .z) G b i y)

@@ -30,8 +30,9 @@ module _ {A B : Type 0} (add : A → A → A) (add′ : B → B → B) (In : ℕ
   over-inside joins f g x y j k k₀ (suc m) d l u h q =
       let p = mul-suc a m in
       let r = mul-suc e m in
-      let w = one (j + e * m) (k + a * m) k₀ _ (f m) _ (g m) (joins m) (omega arith) (omega arith) (omega arith) (over-inside joins f g x y j k k₀ m d (omega arith) (omega arith) h (λ i s. q i (omega arith))) (q m (omega arith)) in
-      (in-more (j + e * m + e) _ _ (omega arith) (w .0), more (k + a * m + a) _ _ _ (omega arith) (w .1))
+      let w = one j k k₀ x (f m) y (g m) (joins m) d (omega arith) (omega arith) h (q m (omega arith)) in
+      let v = over-inside joins f g _ _ (j + e) (k + a) k₀ m (omega arith) (omega arith) (omega arith) w (λ i s. q i (omega arith)) in
+      (in-more (j + e + e * m) _ _ (omega arith) (v .0), more (k + a + a * m) _ _ _ (omega arith) (v .1))
 
   pub sum-inside : {S : Type 0} (t : S → Bool) (f : S → A) (g : S → B) (d : S) (k₀ : ℕ) (l : List S)
       → ((i : ℕ) → i < length l → t (getD l i d) ≡ true → In e (f (getD l i d)) × R k₀ (f (getD l i d)) (g (getD l i d)))

@@ -10,6 +10,7 @@ pub mod Through
 pub mod Held
 pub mod Sound
 pub mod Seen
+pub mod Sweeps
 pub mod Equal
 pub mod Total
 pub mod Rooted

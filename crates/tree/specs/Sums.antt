@@ -40,6 +40,11 @@ pub sum-alike : {S A : Type 0} (add : A → A → A) (t f : S → Bool) → ((s 
     → filtered f l ≡ filtered f l′ → sumOf add t y z l ≡ sumOf add t y z l′
 sum-alike add t f h y z l l′ e = sum-filtered add t f h y z l ∙ ap (sumOf add t y z) e ∙ sym (sum-filtered add t f h y z l′)
 
+-- the same sum, where the elements give the same
+pub sum-same : {S A : Type 0} (add : A → A → A) (t : S → Bool) (y y′ : S → A) → ((s : S) → y s ≡ y′ s) → (z : A) (l : List S) → sumOf add t y z l ≡ sumOf add t y′ z l
+sum-same add t y y′ h z [] = refl
+sum-same add t y y′ h z (s ∷ l) = rw (← h s) (sum-same add t y y′ h (cond (t s) (add z (y s)) z) l)
+
 -- ---- for code: one more element in a loop
 pub sum-more : {S A : Type 0} (add : A → A → A) (t : S → Bool) (y : S → A) (z : A) (l : List S) (d : S) (i : ℕ) → i < length l
     → sumOf add t y z (take (i + 1) l) ≡ cond (t (getD l i d)) (add (sumOf add t y z (take i l)) (y (getD l i d))) (sumOf add t y z (take i l))

@@ -1,47 +1,40 @@
 -- A walk that changes nothing on its way gathers every bus exactly once, from wherever it starts.
 -- Assumes nothing.
 use Prim.Native.Nat.{ℕ, zero, suc, _+_, _*_, _≤_, _<_}
-use mathlib.Core.Path.{_≡_, refl, sym, _∙_, ap, ap₂}
+use mathlib.Core.Path.{_≡_, refl, sym, _∙_, ap}
 use mathlib.Core.Bool.{Bool, true, false, cond}
 use mathlib.Core.Logic.{⊎-elim}
 use native.Mathlib.Omega.{arith}
 use lib.Dec.{ltb, eqb}
 use borrow.Author.Tests.{ltb-true, ltb-false, lt-ltb, le-ltb, eqb-true, eqb-false, eq-eqb, ne-eqb}
 use Rattle.tree.specs.Sums.{sums}
-use Rattle.tree.specs.Walk.{joined, near, over, Gather, walk, joined-cases, near-joined, near-parent, over-same, Tree, Enough, enough, more-fuel, by-number, enough-not-zero, enough-next}
+use Rattle.tree.specs.Walk.{joined, near, over, Gather, walk, joined-cases, near-joined, near-parent, over-same, over-none, over-one, Tree, Enough, enough, more-fuel, by-number, enough-not-zero, enough-next}
 
 abbrev pub plain : (ℕ → ℕ) → Gather ℕ
 plain f = record { own = f; add = _+_; through = λ b i x. x }
 
-over-none : (joins : ℕ → Bool) (g : ℕ → ℕ) (z m : ℕ) → ((i : ℕ) → i < m → joins i ≡ true → ⊥) → over _+_ joins g z m ≡ z
-over-none joins g z zero h = refl
-over-none joins g z (suc m) h = go (joins m) refl (over-none joins g z m (λ i l. h i (omega arith)))
-  where
-    go : (s : Bool) → joins m ≡ s → over _+_ joins g z m ≡ z → cond s (over _+_ joins g z m + g m) (over _+_ joins g z m) ≡ z
-    go true e q = absurd (h m (omega arith) e)
-    go false e q = q
+-- where none joins, and where one does
+no : (t : Bool) → (t ≡ true → ⊥) → t ≡ false
+no true h = absurd (h refl)
+no false h = refl
+
+none-joins : (joins : ℕ → Bool) (g : ℕ → ℕ) (z m : ℕ) → ((i : ℕ) → i < m → joins i ≡ true → ⊥) → over _+_ joins g z m ≡ z
+none-joins joins g z m h = over-none _+_ joins g z m (λ i l. no (joins i) (h i l))
+
+one-joins : (joins : ℕ → Bool) (g : ℕ → ℕ) (z u m : ℕ) → u < m → joins u ≡ true → ((i : ℕ) → i < m → joins i ≡ true → i ≡ u) → over _+_ joins g z m ≡ z + g u
+one-joins joins g z u m l t h = over-one _+_ joins g z u m l t (λ i k d. no (joins i) (λ e. d (h i k e)))
 
 over-start : (joins : ℕ → Bool) (g : ℕ → ℕ) (z c m : ℕ) → over _+_ joins g (z + c) m ≡ over _+_ joins g z m + c
 over-start joins g z c zero = refl
-over-start joins g z c (suc m) = go (joins m) (over-start joins g z c m)
+over-start joins g z c (suc m) = go (joins m) (over-start joins g (z + g m) c m) (over-start joins g z c m)
   where
-    go : (s : Bool) → over _+_ joins g (z + c) m ≡ over _+_ joins g z m + c
-        → cond s (over _+_ joins g (z + c) m + g m) (over _+_ joins g (z + c) m) ≡ cond s (over _+_ joins g z m + g m) (over _+_ joins g z m) + c
-    go true q = omega arith
-    go false q = q
+    swap : (a b d : ℕ) → a + b + d ≡ a + d + b
+    swap a b d = omega arith
 
-over-one : (joins : ℕ → Bool) (g : ℕ → ℕ) (z u m : ℕ) → u < m → joins u ≡ true → ((i : ℕ) → i < m → joins i ≡ true → i ≡ u) → over _+_ joins g z m ≡ z + g u
-over-one joins g z u zero l t h = absurd (omega arith)
-over-one joins g z u (suc m) l t h = go (joins m) refl (λ k. over-one joins g z u m k t (λ i s. h i (omega arith)))
-  where
-    go : (s : Bool) → joins m ≡ s → (u < m → over _+_ joins g z m ≡ z + g u) → cond s (over _+_ joins g z m + g m) (over _+_ joins g z m) ≡ z + g u
-    go true e q =
-        let k : m ≡ u = h m (omega arith) e in
-        ap₂ _+_ (over-none joins g z m (λ i s j. absurd (omega (arith, h i (omega arith) j)))) (ap g k)
-    go false e q = q (omega (arith, not-last))
-      where
-        not-last : m ≡ u → ⊥
-        not-last k = let c : _≡_ {A = ℕ} 0 1 = cc (ap joins k) in absurd (omega arith)
+    go : (s : Bool) → over _+_ joins g (z + g m + c) m ≡ over _+_ joins g (z + g m) m + c → over _+_ joins g (z + c) m ≡ over _+_ joins g z m + c
+        → over _+_ joins g (cond s (z + c + g m) (z + c)) m ≡ over _+_ joins g (cond s (z + g m) z) m + c
+    go true q r = ap (λ (x : ℕ). over _+_ joins g x m) (swap z c (g m)) ∙ q
+    go false q r = r
 
 -- the last bus handed to its parent
 abbrev handed : (ℕ → ℕ) → (ℕ → ℕ) → ℕ → ℕ → ℕ
@@ -71,7 +64,7 @@ module _ (p : ℕ → ℕ) (D : ℕ) (h : ℕ → ℕ) where
   leaf : (f : ℕ → ℕ) (n : ℕ) (k : ℕ) → walk (plain f) p (suc n) k n (p n) ≡ f n
   leaf f n zero = refl
   leaf f n (suc k) =
-      over-none (near p n (p n)) (λ i. walk (plain f) p (suc n) k i n) (f n) (suc n)
+      none-joins (near p n (p n)) (λ i. walk (plain f) p (suc n) k i n) (f n) (suc n)
       (λ i l e. let j = near-joined p n (p n) i e in ⊎-elim (λ u. j .1 (sym (u .1))) (λ u. absurd (omega arith)) (joined-cases p n i (j .0)))
 
   smaller-tree : (n : ℕ) → Tree p (suc n) D h → Tree p n D h
@@ -97,11 +90,11 @@ module _ (p : ℕ → ℕ) (D : ℕ) (h : ℕ → ℕ) where
       same : (z : ℕ) → x z ≡ x′ z
       same z = over-same _+_ (near p b w) (near p b w) g g′ z n (λ i l. refl) r
 
-      go : (s : Bool) → eqb (p n) b ≡ s → cond s (x (f b) + g n) (x (f b)) ≡ x′ (cond s (f b + f n) (f b))
+      go : (s : Bool) → eqb (p n) b ≡ s → x (cond s (f b + g n) (f b)) ≡ x′ (cond s (f b + f n) (f b))
       go true e =
           let q : p n ≡ b = eqb-true (p n) b e in
           let u : g n ≡ f n = rw (← q) (leaf f n k) in
-          ap₂ _+_ (same (f b)) u ∙ sym (over-start (near p b w) g′ (f b) (f n) n)
+          ap (λ (v : ℕ). x (f b + v)) u ∙ same (f b + f n)
       go false e = same (f b)
 
   -- away from the last bus, it may as well be handed to its parent
@@ -138,6 +131,7 @@ aside p n l g z =
     let q = p n in
     let e : near p q q n ≡ true = last-near p n q q l (λ x. omega arith) ∙ eq-eqb q q refl in
     let r = over-same _+_ (near p q n) (near p q q) g g z n (λ i s. near-other p q n i (λ x. omega arith) ∙ sym (near-none p q i)) (λ i s e. refl) in
+    let s = over-start (near p q q) g z (g n) n in
     rw (near-without p q n, e) (omega arith)
 
 module _ (p : ℕ → ℕ) (D k : ℕ) (room : 2 * D < suc k) where
@@ -155,7 +149,7 @@ module _ (p : ℕ → ℕ) (D k : ℕ) (room : 2 * D < suc k) where
 
       last : walk (plain f) p (suc n) (suc (suc k)) n n ≡ sums f (suc n)
       last =
-          over-one (near p n n) (λ i. walk (plain f) p (suc n) (suc k) i n) (f n) (p n) (suc n) (omega (arith, up)) (near-parent p n n up (λ e. omega (arith, up)))
+          one-joins (near p n n) (λ i. walk (plain f) p (suc n) (suc k) i n) (f n) (p n) (suc n) (omega (arith, up)) (near-parent p n n up (λ e. omega (arith, up)))
           (λ i s e. ⊎-elim (λ u. sym (u .1)) (λ u. absurd (omega arith)) (joined-cases p n i (near-joined p n n i e .0)))
           ∙ ap (λ (x : ℕ). x + walk (plain f) p (suc n) (suc k) (p n) n) (sym (leaf p D (λ i. i) f n k))
           ∙ aside p n up (λ i. walk (plain f) p (suc n) k i (p n)) (f (p n))
@@ -170,7 +164,7 @@ module _ (p : ℕ → ℕ) (D k : ℕ) (room : 2 * D < suc k) where
   total : (n : ℕ) → Tree p n D (λ i. i) → (f : ℕ → ℕ) (b : ℕ) → b < n → walk (plain f) p n (suc (suc k)) b b ≡ sums f n
   total zero t f b l = absurd (omega arith)
   total (suc zero) t f b l =
-      over-none (near p b b) (λ i. walk (plain f) p 1 (suc k) i b) (f b) 1 (λ i s e. near-joined p b b i e .1 (omega arith)) ∙ (let q : b ≡ 0 = omega arith in rw q (omega arith))
+      none-joins (near p b b) (λ i. walk (plain f) p 1 (suc k) i b) (f b) 1 (λ i s e. near-joined p b b i e .1 (omega arith)) ∙ (let q : b ≡ 0 = omega arith in rw q (omega arith))
   total (suc (suc m)) t f b l = step (suc m) (omega arith) t (total (suc m) (smaller-tree p D (λ i. i) (suc m) t)) f b l
 
 pub total-fuel : (p : ℕ → ℕ) (n k : ℕ) → ((i : ℕ) → 0 < i → i < n → p i < i) → 2 * n < k → (f : ℕ → ℕ) (b : ℕ) → b < n → walk (plain f) p n k b b ≡ sums f n

@@ -56,5 +56,9 @@ pub depth-end : (p : ℕ → ℕ) (b : ℕ) → b ≤ p b → depth p b ≡ 0
 unfolding depth
 depth-end p = toward-end p (λ i d. suc d) 0
 
+pub depth-same : (p p′ : ℕ → ℕ) (n : ℕ) → ((b : ℕ) → b < n → p b ≡ p′ b) → (b : ℕ) → b < n → depth p b ≡ depth p′ b
+unfolding depth
+depth-same p p′ n h b l = toward-same p p′ (λ i d. suc d) (λ i d. suc d) 0 n h (λ i d z m. refl) b b l
+
 pub by-depth : (p : ℕ → ℕ) (n D : ℕ) → ((i : ℕ) → 0 < i → i < n → p i < i) → ((i : ℕ) → i < n → depth p i ≤ D) → Tree p n D (depth p)
 by-depth p n D t d = record { grows = λ i z l. omega (arith, depth-more p i (t i z l)); most = d }

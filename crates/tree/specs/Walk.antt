@@ -1,12 +1,11 @@
 -- A walk over a tree of numbered buses, each but bus 0 with a parent: what is gathered at a bus from every side but one.
 -- One recursion serves exact admittances, those in f64, currents and plain counting.
 -- Assumes nothing.
-use Prim.Native.Nat.{ℕ, zero, suc, _+_, _*_, _-_, _≤_, _<_}
-use mathlib.Core.Path.{_≡_, refl, sym, _∙_, ap, ap₂}
+use Prim.Native.Nat.{ℕ, zero, suc, _+_, _*_, _≤_, _<_}
+use mathlib.Core.Path.{_≡_, refl, sym, _∙_, ap}
 use mathlib.Core.Bool.{Bool, true, false, cond}
 use mathlib.Core.Logic.{_⊎_, inl, inr, ⊎-elim}
 use native.Mathlib.Omega.{arith}
-use native.Mathlib.Numerals.{add-one}
 use lib.Dec.{ltb, eqb}
 use borrow.Author.Tests.{ltb-true, ltb-false, lt-ltb, eqb-true, eqb-false, eq-eqb, ne-eqb}
 
@@ -18,10 +17,11 @@ joined p b i = cond (ltb i b) (eqb (p b) i) (cond (ltb b i) (eqb (p i) b) false)
 unfoldable pub near : (ℕ → ℕ) → ℕ → ℕ → ℕ → Bool
 near p b w i = cond (eqb i w) false (joined p b i)
 
--- z, and what g gives for each number below n that joins
+-- z, and what g gives for each number below n that joins, the last one first. Of exact fractions the order changes nothing; in f64 it is
+-- the order of the sweeps, children before the parent
 abbrev pub over : {A : Type 0} → (A → A → A) → (ℕ → Bool) → (ℕ → A) → A → ℕ → A
 over add joins g z zero = z
-over add joins g z (suc k) = cond (joins k) (add (over add joins g z k) (g k)) (over add joins g z k)
+over add joins g z (suc k) = over add joins g (cond (joins k) (add z (g k)) z) k
 
 -- what a walk gathers: what a bus has itself, how two parts add up, and what a part at i is at its neighbour b
 pub record Gather (A : Type 0) : Type 0 where
@@ -74,12 +74,33 @@ pub over-same : {A : Type 0} (add : A → A → A) (joins joins′ : ℕ → Boo
     → ((i : ℕ) → i < n → joins i ≡ joins′ i) → ((i : ℕ) → i < n → joins i ≡ true → g i ≡ g′ i) → over add joins g z n ≡ over add joins′ g′ z n
 over-same add joins joins′ g g′ z zero j h = refl
 over-same {A} add joins joins′ g g′ z (suc k) j h =
-    rw (← j k (omega arith)) (go (joins k) refl (over-same add joins joins′ g g′ z k (λ i l. j i (omega arith)) (λ i l. h i (omega arith))))
+    over-same add joins joins′ g g′ (cond (joins k) (add z (g k)) z) k (λ i l. j i (omega arith)) (λ i l. h i (omega arith))
+    ∙ ap (λ (x : A). over add joins′ g′ x k) (rw (← j k (omega arith)) (go (joins k) refl))
   where
-    go : (s : Bool) → joins k ≡ s → over add joins g z k ≡ over add joins′ g′ z k
-        → cond s (add (over add joins g z k) (g k)) (over add joins g z k) ≡ cond s (add (over add joins′ g′ z k) (g′ k)) (over add joins′ g′ z k)
-    go true e r = ap₂ add r (h k (omega arith) e)
-    go false e r = r
+    go : (s : Bool) → joins k ≡ s → cond s (add z (g k)) z ≡ cond s (add z (g′ k)) z
+    go true e = ap (add z) (h k (omega arith) e)
+    go false e = refl
+
+module _ {A : Type 0} (add : A → A → A) (joins : ℕ → Bool) (g : ℕ → A) where
+  -- where none joins, nothing is added
+  pub over-none : (z : A) (m : ℕ) → ((i : ℕ) → i < m → joins i ≡ false) → over add joins g z m ≡ z
+  over-none z zero h = refl
+  over-none z (suc m) h = rw (h m (omega arith)) (over-none z m (λ i l. h i (omega arith)))
+
+  -- one that joins, and none beside it
+  pub over-one : (z : A) (u m : ℕ) → u < m → joins u ≡ true → ((i : ℕ) → i < m → (i ≡ u → ⊥) → joins i ≡ false) → over add joins g z m ≡ add z (g u)
+  over-one z u zero l t h = absurd (omega arith)
+  over-one z u (suc m) l t h = go (eqb u m) refl (over-one z u m)
+    where
+      go : (s : Bool) → eqb u m ≡ s → (u < m → joins u ≡ true → ((i : ℕ) → i < m → (i ≡ u → ⊥) → joins i ≡ false) → over add joins g z m ≡ add z (g u))
+          → over add joins g (cond (joins m) (add z (g m)) z) m ≡ add z (g u)
+      go true e r =
+          let k : u ≡ m = eqb-true u m e in
+          let j : joins m ≡ true = rw k at t in
+          rw j (over-none (add z (g m)) m (λ i n. h i (omega arith) (λ q. omega arith)) ∙ ap (λ (v : ℕ). add z (g v)) (sym k))
+      go false e r =
+          let k = eqb-false u m e in
+          rw (h m (omega arith) (λ q. k (sym q))) (r (omega arith) t (λ i n. h i (omega arith)))
 
 -- ---- fuel: h is a height that grows from parent to child and is at most D; then 2·D + 1 steps are enough
 pub record Tree (p : ℕ → ℕ) (n D : ℕ) (h : ℕ → ℕ) : Type 0 where
@@ -156,12 +177,11 @@ module _ {A B : Type 0} (G : Gather A) (H : Gather B) (p : ℕ → ℕ) (n : ℕ
   over-related : (b : ℕ) → b < n → (joins : ℕ → Bool) (f : ℕ → A) (g : ℕ → B) (x : A) (y : B) (m : ℕ) → R b x y
       → ((i : ℕ) → i < m → joins i ≡ true → R b (f i) (g i)) → R b (over (G .add) joins f x m) (over (H .add) joins g y m)
   over-related b l joins f g x y zero r h = r
-  over-related b l joins f g x y (suc m) r h = go (joins m) refl (over-related b l joins f g x y m r (λ i s. h i (omega arith)))
+  over-related b l joins f g x y (suc m) r h = over-related b l joins f g _ _ m (go (joins m) refl) (λ i s. h i (omega arith))
     where
-      go : (s : Bool) → joins m ≡ s → R b (over (G .add) joins f x m) (over (H .add) joins g y m)
-          → R b (cond s (G .add (over (G .add) joins f x m) (f m)) (over (G .add) joins f x m)) (cond s (H .add (over (H .add) joins g y m) (g m)) (over (H .add) joins g y m))
-      go true e q = adds b _ _ _ _ l q (h m (omega arith) e)
-      go false e q = q
+      go : (s : Bool) → joins m ≡ s → R b (cond s (G .add x (f m)) x) (cond s (H .add y (g m)) y)
+      go true e = adds b _ _ _ _ l r (h m (omega arith) e)
+      go false e = r
 
   pub walk-related : (fuel b w : ℕ) → b < n → R b (walk G p n fuel b w) (walk H p n fuel b w)
   walk-related zero b w l = own b l
@@ -187,13 +207,3 @@ walk-same {A} add own own′ through through′ p p′ n hp ho ht (suc fuel) b w
 
     there : ℕ → ℕ → ℕ → A
     there = walk (record { own = own′; add = add; through = through′ }) p′ n
-
--- ---- for code: one more bus in a loop, and one more step of a recursion
-pub over-more : {A : Type 0} (add : A → A → A) (joins : ℕ → Bool) (g : ℕ → A) (z : A) (i : ℕ)
-    → over add joins g z (i + 1) ≡ cond (joins i) (add (over add joins g z i) (g i)) (over add joins g z i)
-over-more add joins g z i = rw add-one
-
-pub walk-more : {A : Type 0} (G : Gather A) (p : ℕ → ℕ) (n fuel b w : ℕ) → (fuel ≡ 0 → ⊥)
-    → walk G p n fuel b w ≡ over (G .add) (near p b w) (λ i. G .through b i (walk G p n (fuel - 1) i b)) (G .own b) n
-walk-more G p n zero b w h = absurd (h refl)
-walk-more G p n (suc f) b w h = let e : suc f - 1 ≡ f = omega arith in rw e
