@@ -1,4 +1,4 @@
--- Arrays that a loop fills: record by record, and by adding up what stands at each bus.
+-- Arrays that a loop fills: record by record, by adding up what stands at each bus, and row by row.
 use mathlib.Core.Path.{_≡_, refl, sym, _∙_, ap, ap₂}
 use mathlib.Core.Bool.{Bool, true, false, cond, _&&_}
 use mathlib.Core.List.{List, []}
@@ -8,12 +8,15 @@ use lib.Dec.{eqb, ltb}
 use lib.Ieee.{Float, nan}
 use lib.ListN.{length, take, set, getD, replicate, length-take, length-set, length-replicate, getD-replicate, List·getD-eq-default}
 use lib.Seq.{take-all, getD-take, getD-set-same, getD-set-other}
-use borrow.Author.Tests.{eqb-true, eqb-false, eq-eqb, ltb-true, ltb-false, lt-ltb}
+use borrow.Author.Tests.{eqb-true, eqb-false, eq-eqb, ltb-true, ltb-false, lt-ltb, le-ltb}
 use Rattle.enclosure.specs.declared.Complex.{Complex}
 use Rattle.enclosure.specs.Doubles.{nought, none, added}
 use Rattle.tree.specs.Sums.{sumOf, sum-more}
+use Rattle.network.specs.declared.Found.{Found}
 use Rattle.network.specs.Network.{maxBuses}
-use Rattle.network.specs.Columns.{numberAt, pointAt}
+use Rattle.network.specs.QueryAll.{refusedBy}
+use Rattle.sweep.specs.Columns.{column, pointAt, points, pointsOf}
+use Rattle.sweep.specs.laws.Columns.{column-only, points-only, put-same, put-other}
 
 -- the array v holds f of each record of l, and f of the blank record past the last one
 abbrev pub Filled : {X Y : Type 0} → (X → Y) → X → Y → List X → List Y → Type 0
@@ -49,14 +52,9 @@ module _ {X Y : Type 0} (f : X → Y) (blank : X) (d : Y) where
   pub filled-all : (l : List X) (v : List Y) (i : ℕ) → length l ≤ i → Filled f blank d (take i l) v → Filled f blank d l v
   filled-all l v i m h = rw (take-all i l m) at h
 
--- a column of numbers at any place, where the blank record has 0
-pub filled-number : {X : Type 0} (f : X → ℕ) (blank : X) (l : List X) (v : List ℕ) → f blank ≡ 0 → length l ≤ maxBuses
-    → ((i : ℕ) → i < maxBuses → getD v i 0 ≡ f (getD l i blank)) → (i : ℕ) → numberAt v i ≡ f (getD l i blank)
-filled-number f blank l v e m h i = go (ltb i maxBuses) refl
-  where
-    go : (t : Bool) → ltb i maxBuses ≡ t → cond t (getD v i 0) 0 ≡ f (getD l i blank)
-    go true q = h i (ltb-true i maxBuses q)
-    go false q = let n = ltb-false i maxBuses q in sym (ap f (List·getD-eq-default l blank {n = i} (omega arith)) ∙ e)
+  -- filled whole, it is the column
+  pub filled-column : (l : List X) (v : List Y) (i : ℕ) → length l ≤ i → Filled f blank d (take i l) v → v ≡ column (λ k. f (getD l k blank))
+  filled-column l v i m h = let q = filled-all l v i m h in column-only (λ k. f (getD l k blank)) d v (q .0) (q .1)
 
 -- two arrays as points
 pub point-of : (re im : List Float) (i : ℕ) (z : Complex) → i < maxBuses → getD re i nan ≡ z .re → getD im i nan ≡ z .im → pointAt re im i ≡ z
@@ -75,8 +73,9 @@ module _ {S : Type 0} (bus : S → ℕ) (counts : S → Bool) (gives : S → Com
       rw (p, q)
       (length-replicate maxBuses nought, (length-replicate maxBuses nought, λ b h. point-of (replicate maxBuses nought) (replicate maxBuses nought) b none h (getD-replicate maxBuses b nought nan h) (getD-replicate maxBuses b nought nan h)))
 
-  pub stands-all : (l : List S) (re im : List Float) (j : ℕ) → length l ≤ j → Stands (take j l) re im → Stands l re im
-  stands-all l re im j m h = rw (take-all j l m) at h
+  -- all added up, they are the columns
+  pub stands-column : (l : List S) (re im : List Float) (j : ℕ) → length l ≤ j → Stands (take j l) re im → points re im ≡ pointsOf (λ b. sumOf added (at b) gives none l)
+  stands-column l re im j m h = points-only (λ b. sumOf added (at b) gives none l) re im (h .0) (h .1 .0) (rw (take-all j l m) at (h .1 .1))
 
   -- one source more: it counts at a bus of the table, or not
   module _ (l : List S) (re im : List Float) (j : ℕ) (p : S) (m : j < length l) (e : p ≡ getD l j d) (h : Stands (take j l) re im) where
@@ -89,8 +88,7 @@ module _ {S : Type 0} (bus : S → ℕ) (counts : S → Bool) (gives : S → Com
       where
         here : pointAt (set re (bus p) (t .re)) (set im (bus p) (t .im)) (bus p) ≡ sumOf added (at (bus p)) gives none (take (j + 1) l)
         here =
-            point-of (set re (bus p) (t .re)) (set im (bus p) (t .im)) (bus p) t n
-            (getD-set-same re (bus p) (t .re) nan (omega (arith, h .0))) (getD-set-same im (bus p) (t .im) nan (omega (arith, h .1 .0)))
+            put-same (points re im) (bus p) t (h .0, h .1 .0) n
             ∙ s
             ∙ ap (λ (x : Complex). added x (gives p)) (h .1 .1 (bus p) n)
             ∙ sym (rw (q, eq-eqb (bus p) (bus p) refl) at (more (bus p)))
@@ -100,7 +98,7 @@ module _ {S : Type 0} (bus : S → ℕ) (counts : S → Bool) (gives : S → Com
         go b r true k = rw (← eqb-true (bus p) b k) here
         go b r false k =
             let o : b ≡ bus p → ⊥ = λ w. eqb-false (bus p) b k (sym w) in
-            ap₂ (λ (x y : Float). cond (ltb b maxBuses) (record { re = x; im = y }) none) (getD-set-other re (bus p) b (t .re) nan o) (getD-set-other im (bus p) b (t .im) nan o)
+            put-other (points re im) (bus p) b t o
             ∙ h .1 .1 b r
             ∙ sym (rw (q, k) at (more b))
 
@@ -113,3 +111,30 @@ module _ {S : Type 0} (bus : S → ℕ) (counts : S → Bool) (gives : S → Com
         go b r true true x y =
             let w : ltb (bus p) maxBuses ≡ true = rw (eqb-true (bus p) b y) (lt-ltb b maxBuses r) in
             rw (w, x) at q
+
+-- ---- rows: f of each bus below b, and the refusal of a bus that is not there at every other place
+abbrev pub Answered : ℕ → (ℕ → Found) → List Found → Type 0
+Answered b f rows = (length rows ≡ maxBuses) × ((k : ℕ) → k < maxBuses → getD rows k (refusedBy 15) ≡ cond (ltb k b) (f k) (refusedBy 15))
+
+module _ (f : ℕ → Found) where
+  pub answered-none : (rows : List Found) → rows ≡ replicate maxBuses (refusedBy 15) → Answered 0 f rows
+  answered-none rows e = rw e (length-replicate maxBuses (refusedBy 15), λ k l. getD-replicate maxBuses k (refusedBy 15) (refusedBy 15) l ∙ sym (rw (le-ltb k 0 (omega arith))))
+
+  pub answered-more : (rows : List Found) (b : ℕ) (r : Found) → b < maxBuses → r ≡ f b → Answered b f rows → Answered (b + 1) f (set rows b r)
+  answered-more rows b r l e h = (length-set rows b r ∙ h .0, λ k m. go k m (eqb k b) refl)
+    where
+      go : (k : ℕ) → k < maxBuses → (t : Bool) → eqb k b ≡ t → getD (set rows b r) k (refusedBy 15) ≡ cond (ltb k (b + 1)) (f k) (refusedBy 15)
+      go k m true q = rw (eqb-true k b q, lt-ltb b (b + 1) (omega arith)) (getD-set-same rows b r (refusedBy 15) (omega (arith, h .0)) ∙ e)
+      go k m false q =
+          let d = eqb-false k b q in
+          getD-set-other rows b k r (refusedBy 15) d ∙ h .1 k m ∙ ap (λ (t : Bool). cond t (f k) (refusedBy 15)) (same k d)
+        where
+          same : (k : ℕ) → (k ≡ b → ⊥) → ltb k b ≡ ltb k (b + 1)
+          same k d = on (ltb k b) refl
+            where
+              on : (t : Bool) → ltb k b ≡ t → t ≡ ltb k (b + 1)
+              on true p = sym (lt-ltb k (b + 1) (omega (arith, ltb-true k b p)))
+              on false p = sym (le-ltb k (b + 1) (omega (arith, ltb-false k b p, d)))
+
+  pub answered-all : (rows : List Found) (b : ℕ) → Answered b f rows → rows ≡ column (λ k. cond (ltb k b) (f k) (refusedBy 15))
+  answered-all rows b h = column-only (λ k. cond (ltb k b) (f k) (refusedBy 15)) (refusedBy 15) rows (h .0) (h .1)

@@ -1,6 +1,5 @@
 mod Chain
 mod Filling
 mod Lists
-mod Shape
 mod Sizes
 mod Whole

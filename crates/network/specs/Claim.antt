@@ -46,6 +46,7 @@ use Rattle.network.specs.NearPeaks.{MachinePeak, ConverterPeak, NearPeak
 use Rattle.network.specs.Rounded.{ownBy, convertersBy, branchesBy, seenAt, carriedAt, figuresBy, figuresAt, amperesAt}
 use Rattle.network.specs.Elements.{branchMost, machineMost}
 use Rattle.network.specs.Ranges.{voltsOf, sound, levels, referred-least, near-branch}
+use Rattle.network.specs.Bridge.{seen-walk, carried-tree}
 use Rattle.network.specs.Standing.{countOf, counted-once, plain, own-near, own-volts, fed, amperes, current-near, current-counted, current-real}
 
 -- ---- over plain numbers: Y is (A, B)/D, so that Z is (A·D, B·D)/(A² + B²)
@@ -150,11 +151,11 @@ module _ {n : Network} (r : Rebuilt n) (source : 0 < length (n .sources)) (b : �
   reactive = seen-reactive (gridOf n) (sound r .tree) (sound-proper (gridOf n) (sound r) (plain r)) (fed r source) b lb
 
   seen-held : Held units (seen (gridOf n) b b) (seenAt n b)
-  unfolding seenAt
   seen-held =
       let m = few in
-      seen-near (gridOf n) (voltsOf n) (sound r) (levels r) (plain r) (omega arith) (branchesBy n) (ownBy n) 1069 (lit≤ tt)
-      (λ i z l. held-more 24 1069 _ _ (lit≤ tt) (near-branch r i z l)) (λ c l. own-near r c) b b lb
+      rw (seen-walk n few (sound r) b lb)
+      (seen-near (gridOf n) (voltsOf n) (sound r) (levels r) (plain r) (omega arith) (branchesBy n) (ownBy n) 1069 (lit≤ tt)
+      (λ i z l. held-more 24 1069 _ _ (lit≤ tt) (near-branch r i z l)) (λ c l. own-near r c) b b lb)
 
   seen-good : NearTo value (Good 200 units) parts units (seen (gridOf n) b b) (seenAt n b)
   seen-good =
@@ -186,13 +187,12 @@ module _ {n : Network} (r : Rebuilt n) (source : 0 < length (n .sources)) (b : �
       converters-few
 
   converter-part : ConverterFigures (carried (gridOf n) b) (carriedAt n b)
-  unfolding carriedAt
   converter-part =
       let m = few in
       let volts : (i : ℕ) → i < length (n .buses) → 0 < voltsOf n i = λ i l. le-trans (lit≤ tt) (bus-volts r i l .0) in
       let h = carried-near (gridOf n) (voltsOf n) (sound r) (levels r) (amperes r) (omega arith) (convertersBy n) 1032 (lit≤ tt) (λ i l. current-near r i (volts i l)) b lb in
       let g = carried-range (gridOf n) (voltsOf n) (sound r) (levels r) (amperes r) (omega arith) (convertersBy n) 1032 (lit≤ tt) (λ i l. current-near r i (volts i l)) b lb in
-      converter-figures (1032 + (288 + 4 * length (n .buses))) _ _ (omega arith) (h .0) (h .1) (sized-more (2 ^ 200) extent _ extent-range g) converters-room
+      rw (carried-tree n few b lb) (converter-figures (1032 + (288 + 4 * length (n .buses))) _ _ (omega arith) (h .0) (h .1) (sized-more (2 ^ 200) extent _ extent-range g) converters-room)
 
   seen-fraction : 0 < seen (gridOf n) b b .den
   seen-fraction = seen-held .0 .left

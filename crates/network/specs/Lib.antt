@@ -14,13 +14,16 @@ pub mod NearPeaks
 pub mod Rounded
 pub mod Verdict
 pub mod Query
+pub mod QueryAll
 pub mod Elements
 pub mod Ranges
 pub mod Standing
+pub mod Bridge
 pub mod Claim
+pub mod Sentences
 pub mod Same
 pub mod VerdictLaw
+pub mod QueryAllLaw
 pub mod Worked
-pub mod Columns
 pub mod Promise
 pub mod NearPromise

@@ -5,13 +5,14 @@ use Prim.Native.Nat.{ℕ, _+_}
 use lib.Dec.{eqb}
 use lib.ListN.{take, getD}
 use Rattle.tree.specs.Toward.{toward}
+use Rattle.sweep.specs.Columns as columns
 use Rattle.network.specs.declared.Bus.{Bus}
 use Rattle.network.specs.declared.Source.{Source}
 use Rattle.network.specs.declared.Study.{Study}
 
 -- "At most 64 buses, 256 sources."
 abbrev pub maxBuses : ℕ
-maxBuses = 64
+maxBuses = columns.maxBuses
 
 abbrev pub maxSources : ℕ
 maxSources = 256

@@ -1,21 +1,31 @@
 -- The calculation of a query in f64, as the code makes it: a definition for each function. That it keeps demand 3 is proved in Claim.
 use Prim.Native.Nat.{ℕ, min}
 use mathlib.Core.Bool.{cond}
+use mathlib.Core.List.{List}
 use lib.Dec.{eqb}
+use lib.ListN.{length}
 use Rattle.enclosure.specs.declared.Complex.{Complex}
 use Rattle.enclosure.specs.Units.{ofNat}
 use Rattle.enclosure.specs.Doubles.{none, added, inverted, doubles, lowerOf, upperOf}
 use Rattle.elements.specs.Factors.{factorC}
 use Rattle.elements.specs.Rounded.{lineBy, transformerBy, feederBy, generatorBy, motorBy, converterBy}
 use Rattle.elements.specs.Currents.{currentBy, machinePeakBy, converterPeakBy}
-use Rattle.tree.specs.Grid.{seenBy}
-use Rattle.tree.specs.Converters.{carriedBy}
+use Rattle.tree.specs.Grid.{Grid}
+use Rattle.tree.specs.Converters.{gathered, fromRoot}
 use Rattle.tree.specs.Sums.{sumOf}
+use Rattle.sweep.specs.declared.columns.Points.{Points}
+use Rattle.sweep.specs.declared.sweeps.Rises.{Rises}
+use Rattle.sweep.specs.declared.sweeps.Falls.{Falls}
+use Rattle.sweep.specs.Columns.{column, numberAt, pointOf, pointsOf, columnGrid}
+use Rattle.sweep.specs.Sweep.{risesOf, fallsOf, seenOf}
 use Rattle.network.specs.declared.Bus.{Bus}
 use Rattle.network.specs.declared.Source.{Source}
 use Rattle.network.specs.declared.Amperes.{Amperes}
+use Rattle.network.specs.declared.columns.TreeColumns.{TreeColumns}
+use Rattle.network.specs.declared.columns.Standing.{Standing}
+use Rattle.network.specs.declared.board.Board.{Board}
 use Rattle.network.specs.Network.{Network, busAt, parentOf}
-use Rattle.network.specs.Grid.{gridOf, machineAt, converterAt}
+use Rattle.network.specs.Grid.{aboveOf, belowOf, machineAt, converterAt}
 use Rattle.network.specs.Demand.{Figures}
 
 -- a branch's impedance on the bus's own side
@@ -39,22 +49,69 @@ machineBy n p = admittanceBy (n .tolerance) (busAt (n .buses) (p .bus) .volts) p
 abbrev pub suppliedBy : Source → Complex
 suppliedBy p = converterBy (p .f1) (p .f2)
 
--- what stands at a bus itself
+-- by the records, as a walk reads them (Bridge shows that the columns hold the same): what stands at a bus itself, and its branch
 abbrev pub ownBy : Network → ℕ → Complex
 ownBy n b = sumOf added (machineAt b) (machineBy n) none (n .sources)
 
 abbrev pub convertersBy : Network → ℕ → Complex
 convertersBy n b = sumOf added (converterAt b) suppliedBy none (n .sources)
 
--- the admittance seen at b, and the converters' part there
 abbrev pub branchesBy : Network → ℕ → Complex
 branchesBy n i = branchBy (n .tolerance) (parentOf (n .buses) i) (busAt (n .buses) i)
 
+-- ---- the columns, a place for each bus: numbers of the bus records, those of a blank record past the last bus
+abbrev pub numbersOf : (Bus → ℕ) → List Bus → List ℕ
+numbersOf f l = column (λ i. f (busAt l i))
+
+unfoldable pub treeOf : List Bus → TreeColumns
+treeOf l = record {
+  parents = numbersOf (λ b. b .parent) l;
+  above = numbersOf aboveOf l;
+  below = numbersOf belowOf l;
+  volts = numbersOf (λ b. b .volts) l;
+}
+
+-- the tree that they stand for
+abbrev pub treeGrid : List Bus → Grid
+treeGrid l = columnGrid (length l) (treeOf l .parents) (treeOf l .above) (treeOf l .below)
+
+-- the impedances of the branches
+unfoldable pub branchPoints : ℕ → List Bus → Points
+branchPoints tolerance l = pointsOf (λ i. branchBy tolerance (parentOf l i) (busAt l i))
+
+-- what stands at each bus, by the column of nominal volts
+unfoldable pub standingOf : ℕ → List ℕ → List Source → Standing
+standingOf tolerance volts l = record {
+  own = pointsOf (λ b. sumOf added (machineAt b) (λ p. admittanceBy tolerance (numberAt volts (p .bus)) p) none l);
+  supplied = pointsOf (λ b. sumOf added (converterAt b) suppliedBy none l);
+}
+
+-- both sweeps over the columns, and the converters' currents gathered at bus 0
+abbrev pub risesBy : ℕ → List Bus → Points → Rises
+risesBy tolerance l own = risesOf (pointOf (branchPoints tolerance l)) (treeGrid l) own
+
+abbrev pub fallsBy : ℕ → List Bus → Rises → Falls
+fallsBy tolerance l r = fallsOf (pointOf (branchPoints tolerance l)) (treeGrid l) (pointOf (r .rise)) (pointOf (r .before))
+
+abbrev pub gatheredBy : List Bus → Points → Complex
+gatheredBy l supplied = gathered doubles (pointOf supplied) (treeGrid l) (length l)
+
+-- THE BOARD of a tolerance, buses and sources
+unfoldable pub boardOf : ℕ → List Bus → List Source → Board
+boardOf tolerance l sources =
+    let standing = standingOf tolerance (treeOf l .volts) sources in
+    let rises = risesBy tolerance l (standing .own) in
+    record { tree = treeOf l; up = rises .up; fall = fallsBy tolerance l rises .fall; gathered = gatheredBy l (standing .supplied) }
+
+abbrev pub boardBy : Network → Board
+boardBy n = boardOf (n .tolerance) (n .buses) (n .sources)
+
+-- its row for bus b: the admittance seen there, and the converters' part
 unfoldable pub seenAt : Network → ℕ → Complex
-seenAt n b = seenBy doubles (branchesBy n) (ownBy n) (gridOf n) 37 b b
+seenAt n b = seenOf (boardBy n .up) (boardBy n .fall) b
 
 unfoldable pub carriedAt : Network → ℕ → Complex
-carriedAt n b = carriedBy doubles (convertersBy n) (gridOf n) b
+carriedAt n b = fromRoot doubles (treeGrid (n .buses)) b (boardBy n .gathered)
 
 -- the six whole numbers, and as amperes
 abbrev pub figuresBy : ℕ → ℕ → Complex → Complex → Figures

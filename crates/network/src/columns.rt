@@ -1,102 +1,82 @@
-// The columns of a query: what the walks over the tree read of a study, a number or a point for each bus. `amperes_at` makes each one once.
+// The columns of a study: what the sweeps over its tree read of the records, a number or a point for each bus.
 ghost use mathlib.Core.Path.{_≡_};
-ghost use Prim.Native.Nat.{ℕ, _<_};
-ghost use lib.ListN.{getD};
-ghost use Rattle.network.specs.Network.{maxBuses, network, busAt};
-ghost use Rattle.network.specs.Rounded.{branchesBy};
-ghost use Rattle.network.specs.Columns.{entryOf, counts, given, standing, numberAt, pointAt};
+ghost use Prim.Native.Nat.{min};
+ghost use lib.ListN.{take};
+ghost use Rattle.network.specs.Network.{maxSources};
+ghost use Rattle.network.specs.Rounded.{treeOf, branchPoints, standingOf};
 use crate::BUSES;
 use crate::Bus;
+use crate::SOURCES;
 use crate::Source;
-use crate::Study;
-use crate::blank_bus;
-use crate::bus_total;
 use crate::records::branch_impedance;
 use crate::records::converter_current;
 use crate::records::machine_admittance;
 use crate::records::rated_volts;
-use crate::source_total;
-use enclosure::Complex;
 use enclosure::add;
-use enclosure::nothing;
+use sweep::columns::Points;
+use sweep::columns::clamped;
+use sweep::columns::number_at;
+use sweep::columns::point_at;
 
-// A number of a bus record: its parent, its nominal volts, rated volts of its branch on the parent's side and on its own.
-pub enum Entry {
-    Parent,
-    Volts,
-    Above,
-    Below,
+// Of each bus its parent, rated volts of its branch on the parent's side and on its own, and its nominal volts; those of a blank record
+// past the last bus.
+pub struct TreeColumns {
+    pub parents: [u32; BUSES],
+    pub above: [u32; BUSES],
+    pub below: [u32; BUSES],
+    pub volts: [u32; BUSES],
 }
 
-// A point for each bus.
-pub struct Points {
-    pub re: [f64; BUSES],
-    pub im: [f64; BUSES],
+// What stands at each bus: the sum of its machines' admittances, and that of its converters' currents.
+pub struct Standing {
+    pub own: Points,
+    pub supplied: Points,
 }
 
-fn entry_of(entry: Entry, b: Bus) -> u32
-    ensures { λ r. ⌜ r ≡ entryOf entry b ⌝ }
+// The tree of the first n records.
+pub(crate) fn tree_of(buses: [Bus; BUSES], n: usize) -> TreeColumns
+    ensures { λ r. ⌜ r ≡ treeOf (take n buses) ⌝ }
 {
-    match entry {
-        Entry::Parent => b.parent,
-        Entry::Volts => b.volts,
-        Entry::Above => rated_volts(b.kind, b.f1),
-        Entry::Below => rated_volts(b.kind, b.f2),
-    }
-}
-
-// One number of every bus record, that of a blank record past the last bus.
-pub(crate) fn column(s: Study, entry: Entry) -> [u32; BUSES]
-    ensures { λ r. ⌜ ((i : ℕ) → i < maxBuses → getD r i 0 ≡ entryOf entry (busAt (network s .buses) i)) ⌝ }
-{
-    let blank = entry_of(entry, blank_bus());
-    let mut values = [blank; BUSES];
-    let n = bus_total(s);
+    let mut parents = [0; BUSES];
+    let mut above = [1; BUSES];
+    let mut below = [1; BUSES];
+    let mut volts = [0; BUSES];
+    let m = clamped(n);
     let mut i = 0;
-    while i < n {
-        let b = s.buses[i];
-        values[i] = entry_of(entry, b);
+    while i < m {
+        let b = buses[i];
+        parents[i] = b.parent;
+        above[i] = rated_volts(b.kind, b.f1);
+        below[i] = rated_volts(b.kind, b.f2);
+        volts[i] = b.volts;
         i += 1;
     }
-    values
-}
-
-// An array of numbers at any place, 0 past its end.
-pub(crate) fn number_at(values: &[u32; BUSES], i: usize) -> u32
-    ensures { λ r. ⌜ r ≡ numberAt (now (values .entry)) i ⌝ }
-{
-    if i < BUSES {
-        return values[i];
+    TreeColumns {
+        parents,
+        above,
+        below,
+        volts,
     }
-    0
 }
 
-// Two arrays as a point at any place, nothing past their end.
-pub(crate) fn point_at(re: &[f64; BUSES], im: &[f64; BUSES], i: usize) -> Complex
-    ensures { λ r. ⌜ r ≡ pointAt (now (re .entry)) (now (im .entry)) i ⌝ }
-{
-    if i < BUSES {
-        return Complex {
-            re: re[i],
-            im: im[i],
-        };
-    }
-    nothing()
-}
-
-// The impedances of the branches, each on its bus's own side, by the column of nominal volts.
-pub(crate) fn branches(s: Study, volts: &[u32; BUSES]) -> Points
-    requires { ⌜ ((i : ℕ) → i < maxBuses → getD (now volts) i 0 ≡ busAt (network s .buses) i .volts) ⌝ }
-    ensures { λ r. ⌜ ((i : ℕ) → i < maxBuses → pointAt (r .re) (r .im) i ≡ branchesBy (network s) i) ⌝ }
+// The impedances of the branches of the first n records, each on its bus's own side, by the column of nominal volts.
+pub(crate) fn branches(
+    tolerance: u32,
+    buses: [Bus; BUSES],
+    n: usize,
+    volts: &[u32; BUSES],
+) -> Points
+    requires { ⌜ now volts ≡ treeOf (take n buses) .volts ⌝ }
+    ensures { λ r. ⌜ r ≡ branchPoints tolerance (take n buses) ⌝ }
 {
     let mut re = [0.0; BUSES];
     let mut im = [0.0; BUSES];
-    let n = bus_total(s);
+    let m = clamped(n);
     let mut i = 0;
-    while i < n {
-        let b = s.buses[i];
+    while i < m {
+        let b = buses[i];
         let parent_volts = number_at(volts, b.parent as usize);
-        let z = branch_impedance(s.tolerance, parent_volts, b);
+        let z = branch_impedance(tolerance, parent_volts, b);
         re[i] = z.re;
         im[i] = z.im;
         i += 1;
@@ -104,43 +84,54 @@ pub(crate) fn branches(s: Study, volts: &[u32; BUSES]) -> Points
     Points { re, im }
 }
 
-// Whether a source is a converter, or else one of the machines.
-fn counts_as(converters: bool, p: Source) -> bool
-    ensures { λ r. ⌜ r ≡ counts converters p ⌝ }
+// n, or the greatest number of sources for any more.
+fn clamped_sources(n: usize) -> usize
+    ensures { λ r. ⌜ r ≡ min n maxSources ⌝ }
 {
-    if converters { p.kind == 4 } else { p.kind <= 3 }
+    if n < SOURCES { n } else { SOURCES }
 }
 
-// A converter's current, or a machine's admittance at a bus of these nominal volts.
-fn given_by(converters: bool, tolerance: u32, volts: u32, p: Source) -> Complex
-    ensures { λ r. ⌜ r ≡ given converters tolerance volts p ⌝ }
+// What stands at each bus, of the first n sources: its machines' admittances by the column of nominal volts, its converters' currents.
+pub(crate) fn standing_of(
+    tolerance: u32,
+    volts: &[u32; BUSES],
+    sources: [Source; SOURCES],
+    n: usize,
+) -> Standing
+    ensures { λ r. ⌜ r ≡ standingOf tolerance (now (volts .entry)) (take n sources) ⌝ }
 {
-    if converters {
-        converter_current(p)
-    } else {
-        machine_admittance(tolerance, volts, p)
-    }
-}
-
-// What stands at each bus, by the column of nominal volts: the sum of its converters' currents, or of its machines' admittances.
-pub(crate) fn standing_at(s: Study, volts: &[u32; BUSES], converters: bool) -> Points
-    requires { ⌜ ((i : ℕ) → i < maxBuses → getD (now volts) i 0 ≡ busAt (network s .buses) i .volts) ⌝ }
-    ensures { λ r. ⌜ ((b : ℕ) → b < maxBuses → pointAt (r .re) (r .im) b ≡ standing converters (network s) b) ⌝ }
-{
-    let mut re = [0.0; BUSES];
-    let mut im = [0.0; BUSES];
-    let n = source_total(s);
-    let mut j = 0;
-    while j < n {
-        let p = s.sources[j];
+    let mut own_re = [0.0; BUSES];
+    let mut own_im = [0.0; BUSES];
+    let mut supplied_re = [0.0; BUSES];
+    let mut supplied_im = [0.0; BUSES];
+    let m = clamped_sources(n);
+    let mut next = 0;
+    while next < m {
+        // counted on at once, so that each branch ends the turn
+        let p = sources[next];
+        next += 1;
         let b = p.bus as usize;
-        if (b < BUSES) & counts_as(converters, p) {
-            let more = given_by(converters, s.tolerance, number_at(volts, b), p);
-            let total = add(point_at(&re, &im, b), more);
-            re[b] = total.re;
-            im[b] = total.im;
+        if (b < BUSES) & (p.kind <= 3) {
+            let more = machine_admittance(tolerance, number_at(volts, b), p);
+            let total = add(point_at(&own_re, &own_im, b), more);
+            own_re[b] = total.re;
+            own_im[b] = total.im;
+        } else if (b < BUSES) & (p.kind == 4) {
+            let total = add(
+                point_at(&supplied_re, &supplied_im, b),
+                converter_current(p),
+            );
+            supplied_re[b] = total.re;
+            supplied_im[b] = total.im;
         }
-        j += 1;
     }
-    Points { re, im }
+    let own = Points {
+        re: own_re,
+        im: own_im,
+    };
+    let supplied = Points {
+        re: supplied_re,
+        im: supplied_im,
+    };
+    Standing { own, supplied }
 }

@@ -2,24 +2,27 @@
 // Every call is total: it carries the number of the ground on which it was refused, 0 where it was accepted.
 ghost use mathlib.Core.Path.{_≡_};
 ghost use mathlib.Core.Bool.{true, false};
+ghost use Prim.Native.Nat.{ℕ, _<_};
 ghost use lib.ListN.{length};
-ghost use Rattle.network.specs.Network.{blank, blankSource, network, busAt};
+ghost use Rattle.network.specs.Network.{maxBuses, blank, blankSource, network, busAt};
 ghost use Rattle.network.specs.Verdict.{verdictOf};
 ghost use Rattle.network.specs.Promise.{Promise};
 ghost use Rattle.network.specs.NearPromise.{NearPromise};
 ghost use Rattle.network.specs.Query.{queryNumber, noAmperes, amperesGiven, verdictGiven};
+ghost use Rattle.network.specs.QueryAll.{foundGiven, rowsGiven, rowAt};
 ghost use Rattle.network.specs.Grounds.{emptyOf, startNumber, startNetwork, busNumber, afterBus, sourceNumber, afterSource, closeNumber, afterClose};
 
+mod board;
 mod bus_grounds;
 mod checks;
 mod columns;
 mod contents;
-mod converters;
 mod figures;
 mod records;
+mod rows;
 mod source_grounds;
-mod walk;
 
+use board::board_of;
 use bus_grounds::bus_record_number;
 pub use contents::buses_of;
 pub use contents::is_closed;
@@ -36,11 +39,12 @@ use enclosure::amperes::excess_peak;
 use enclosure::amperes::excess_rms;
 use enclosure::amperes::peak_of;
 use enclosure::amperes::rms_of;
-use figures::amperes_at;
+use rows::all_given;
+use rows::answered;
 use source_grounds::source_record_number;
 
 // The buses that a study has room for.
-pub const BUSES: usize = 64;
+pub const BUSES: usize = sweep::BUSES;
 
 // The sources that a study has room for.
 pub const SOURCES: usize = 256;
@@ -351,9 +355,7 @@ fn refused(number: u32) -> Found
 
 // What a query gives. Refused: 22 not closed, 15 no such bus; then the amperes are 0 and the verdict is close.
 fn given(s: Study, bus: u32) -> Found
-    ensures number { λ r. ⌜ r .number ≡ queryNumber (network s) bus ⌝ }
-    ensures amperes { λ r. ⌜ r .amperes ≡ amperesGiven (network s) bus ⌝ }
-    ensures verdict { λ r. ⌜ r .verdict ≡ verdictGiven (network s) bus ⌝ }
+    ensures { λ r. ⌜ r ≡ foundGiven (network s) bus ⌝ }
 {
     if !s.closed {
         return refused(22);
@@ -363,16 +365,22 @@ fn given(s: Study, bus: u32) -> Found
         return refused(15);
     }
     let record = s.buses[b];
-    let amperes = amperes_at(s, b);
-    Found {
-        number: 0,
-        amperes,
-        verdict: verdict_of(
-            amperes,
-            Rms(record.rating as f64),
-            Peak(record.peak_rating as f64),
-        ),
-    }
+    let buses = s.buses;
+    let sources = s.sources;
+    let board = board_of(s.tolerance, buses, s.bus_count, sources, s.source_count);
+    answered(
+        s.tolerance,
+        record,
+        &board.tree.parents,
+        &board.tree.above,
+        &board.tree.below,
+        &board.up.re,
+        &board.up.im,
+        &board.fall.re,
+        &board.fall.im,
+        board.gathered,
+        b,
+    )
 }
 
 // The six amperes of a bus, and its verdict. Refused: 22 not closed, 15 no such bus; then the amperes are 0 and the verdict is close.
@@ -385,4 +393,14 @@ pub fn query(s: Study, bus: u32) -> Found
     ensures near { λ r. ⌜ NearPromise (network s) bus r ⌝ }
 {
     given(s, bus)
+}
+
+// The answers to a query of each bus, at its place: as `query` gives them, but calculated together. Past the last bus stands the refusal
+// of a bus that is not there.
+pub fn query_all(s: Study) -> [Found; BUSES]
+    ensures rows { λ r. ⌜ r ≡ rowsGiven (network s) ⌝ }
+    ensures promise { λ r. ⌜ ((b : ℕ) → b < maxBuses → Promise (network s) b (rowAt r b)) ⌝ }
+    ensures near { λ r. ⌜ ((b : ℕ) → b < maxBuses → NearPromise (network s) b (rowAt r b)) ⌝ }
+{
+    all_given(s)
 }

@@ -5,10 +5,11 @@ ghost use Rattle.printing.specs.Line.{room};
 ghost use Rattle.noldveig.specs.Rows.{busRow, refusalRow};
 use libc::STDIN_FILENO;
 use libc::STDOUT_FILENO;
+use network::BUSES;
 use network::Found;
 use network::Study;
 use network::bus_total;
-use network::query;
+use network::query_all;
 use printing::LINE;
 use printing::put;
 use printing::put_amperes;
@@ -19,10 +20,6 @@ use printing::written;
 
 // One byte more than a text may have, so that a longer one is seen to be longer.
 const TEXT: usize = 65_537;
-
-fn size(x: u32) -> usize {
-    x as usize
-}
 
 // Puts the row of a refusal at the start of the line, and gives its length. What is required is what the type says: of an array
 // behind a reference the prover does not know the length by itself.
@@ -54,21 +51,20 @@ fn print_refusal(number: u32, row: u32) {
     io::write_all(STDOUT_FILENO, written(&line, end));
 }
 
-fn print_bus(s: Study, bus: u32) {
+fn print_bus(bus: u32, found: Found) {
     let mut line = [0u8; LINE];
-    let end = put_bus(&mut line, bus, query(s, bus));
+    let end = put_bus(&mut line, bus, found);
     io::write_all(STDOUT_FILENO, written(&line, end));
 }
 
+// The rows of all buses, from one board.
 fn print_buses(s: Study) {
     let total = bus_total(s);
-    let mut bus: u32 = 0;
-    while bus < u32::MAX {
-        if total <= size(bus) {
-            return;
-        }
-        print_bus(s, bus);
-        bus += 1;
+    let rows = query_all(s);
+    let mut b: usize = 0;
+    while (b < total) & (b < BUSES) {
+        print_bus(b as u32, rows[b]);
+        b += 1;
     }
 }
 

@@ -1,5 +1,9 @@
 -- `network::query` meets its contract: what Query defines keeps the promise. Assumes nothing.
+use mathlib.Core.Path.{_≡_, ap}
 use borrow.Author.Needs.{needs}
+use Rattle.network.specs.declared.Found.{Found}
+use Rattle.network.specs.Query.{queryNumber, amperesGiven, verdictGiven}
+use Rattle.network.specs.QueryAll.{foundGiven}
 use Rattle.network.specs.Network.{network}
 use Rattle.network.specs.Promise.{promised}
 use Rattle.network.specs.NearPromise.{near-promised}
@@ -10,10 +14,16 @@ given-requires : tie.Need-given-requires
 given-requires c κs = search needs
 
 returns : tie.Need-returns
+unfolding foundGiven
 returns c =
-    let e = c .given .ensures in
     let n = network (c .before .args .s) in
-    (e .0, (e .1 .0, (e .1 .1, (promised n (c .before .args .bus) (c .given .result) (e .0) (e .1 .0) (e .1 .1), near-promised n (c .before .args .bus) (c .given .result) (e .1 .0)))))
+    let b = c .before .args .bus in
+    let f = c .given .result in
+    let e = c .given .ensures in
+    let number : f .number ≡ queryNumber n b = ap (λ (r : Found). r .number) e in
+    let amperes : f .amperes ≡ amperesGiven n b = ap (λ (r : Found). r .amperes) e in
+    let verdict : f .verdict ≡ verdictGiven n b = ap (λ (r : Found). r .verdict) e in
+    (number, (amperes, (verdict, (promised n b f number amperes verdict, near-promised n b f amperes))))
 
 pub query-spec : {M : Type 1} → statement M
 query-spec = tie.close (tie.spec given-requires returns)
