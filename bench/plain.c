@@ -54,6 +54,11 @@ void read_study(const char *text, size_t length, struct study *s)
     }
 }
 
+static struct point plus(struct point a, struct point b)
+{
+    return (struct point){a.re + b.re, a.im + b.im};
+}
+
 static struct point times(struct point z, double t)
 {
     return (struct point){z.re * t, z.im * t};
@@ -136,6 +141,12 @@ static struct point through(const struct columns *c, int b, int i, struct point 
     return inverse(times((struct point){c->z[i].re + z.re, c->z[i].im + z.im}, t * t));
 }
 
+/* The same, where y may be nothing. */
+static struct point seen_through(const struct columns *c, int b, int i, struct point y)
+{
+    return y.re + y.im == 0 ? y : through(c, b, i, y);
+}
+
 /* The admittance at b without its neighbour w; without none is w = b. */
 static struct point seen(const struct study *s, const struct columns *c, int b, int w)
 {
@@ -166,15 +177,22 @@ static double gathered(const struct study *s, const struct columns *c)
     return total;
 }
 
-/* The figures from the admittance at a bus and the converters' current at bus 0. */
-static struct figures figures_of(const struct study *s, const struct columns *c, int bus, struct point y, double gathered)
+/* The figures from the admittance at a bus and the converters' current there. */
+static struct figures figures_at(const struct study *s, int bus, struct point y, double converters)
 {
-    double volts = s->volts[bus], converters = gathered;
-    for (int k = bus; k > 0; k = s->parent[k])
-        converters *= c->above[k] / c->below[k];
+    double volts = s->volts[bus];
     double machines = factor_c(s, volts) * volts * sqrt((y.re * y.re + y.im * y.im) / 3);
     double peak = sqrt(2) * machines * (1.02 + 0.98 * exp(-3 * y.re / y.im));
     return (struct figures){machines, converters, peak, sqrt(2) * converters};
+}
+
+/* The same from the converters' current at bus 0. */
+static struct figures figures_of(const struct study *s, const struct columns *c, int bus, struct point y, double gathered)
+{
+    double converters = gathered;
+    for (int k = bus; k > 0; k = s->parent[k])
+        converters *= c->above[k] / c->below[k];
+    return figures_at(s, bus, y, converters);
 }
 
 struct figures plain_query(const struct study *s, int bus)
@@ -203,26 +221,71 @@ static struct point seen_by_lists(const struct study *s, const struct prepared *
 /* What b sees of its neighbour i. */
 static struct point part(const struct study *s, const struct prepared *p, int b, int i)
 {
-    struct point y = seen_by_lists(s, p, i, b);
-    return y.re + y.im == 0 ? y : through(&p->columns, b, i, y);
+    return seen_through(&p->columns, b, i, seen_by_lists(s, p, i, b));
 }
 
 static struct point seen_by_lists(const struct study *s, const struct prepared *p, int b, int w)
 {
-    struct point total = p->columns.own[b], y;
-    if (b > 0 && s->parent[b] != w) {
-        y = part(s, p, b, s->parent[b]);
-        total = (struct point){total.re + y.re, total.im + y.im};
-    }
+    struct point total = p->columns.own[b];
+    if (b > 0 && s->parent[b] != w)
+        total = plus(total, part(s, p, b, s->parent[b]));
     for (int i = p->first[b]; i >= 0; i = p->next[i])
-        if (i != w) {
-            y = part(s, p, b, i);
-            total = (struct point){total.re + y.re, total.im + y.im};
-        }
+        if (i != w)
+            total = plus(total, part(s, p, b, i));
     return total;
 }
 
 struct figures prepared_query(const struct study *s, const struct prepared *p, int bus)
 {
     return figures_of(s, &p->columns, bus, seen_by_lists(s, p, bus, bus), p->gathered);
+}
+
+/* What the sweeps leave at each bus i: what is seen at i without its parent (up); what is seen of i at its parent (rise), and what the
+   parent had before that (before); the sum of the rises of those of its children that are done (beside); what is seen of its parent at i (fall); the
+   converters' current. */
+struct swept {
+    struct point up[BUSES], rise[BUSES], before[BUSES], beside[BUSES], fall[BUSES];
+    double current[BUSES];
+};
+
+/* Towards bus 0: a bus is handed to its parent once its children were handed to it. */
+static void sweep_up(const struct study *s, const struct columns *c, struct swept *w)
+{
+    for (int i = 0; i < s->buses; i++) {
+        w->up[i] = c->own[i];
+        w->current[i] = c->supplied[i];
+    }
+    for (int i = s->buses - 1; i > 0; i--) {
+        int p = s->parent[i];
+        w->before[i] = w->up[p];
+        w->rise[i] = seen_through(c, p, i, w->up[i]);
+        w->up[p] = plus(w->up[p], w->rise[i]);
+        w->current[p] += w->current[i] * c->below[i] / c->above[i];
+    }
+}
+
+/* Away from it: what is seen at the parent without i is what it had of the children past i, those before i, added again, and what is
+   seen of its own parent. */
+static void sweep_down(const struct study *s, const struct columns *c, struct swept *w)
+{
+    for (int i = 0; i < s->buses; i++)
+        w->beside[i] = w->fall[i] = (struct point){0, 0};
+    for (int i = 1; i < s->buses; i++) {
+        int p = s->parent[i];
+        struct point without = plus(plus(w->before[i], w->beside[p]), w->fall[p]);
+        w->fall[i] = seen_through(c, i, p, without);
+        w->beside[p] = plus(w->beside[p], w->rise[i]);
+        w->current[i] = w->current[p] * c->above[i] / c->below[i];
+    }
+}
+
+void plain_board(const struct study *s, struct figures *rows)
+{
+    struct columns c;
+    struct swept w;
+    fill_columns(s, &c);
+    sweep_up(s, &c, &w);
+    sweep_down(s, &c, &w);
+    for (int b = 0; b < s->buses; b++)
+        rows[b] = figures_at(s, b, plus(w.up[b], w.fall[b]), w.current[b]);
 }

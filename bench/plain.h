@@ -1,4 +1,4 @@
-/* The calculation of a network in plain doubles: the sweeps of crates/network without bounds, checks or proofs. */
+/* The calculation of a network in plain doubles: what crates/network calculates, without bounds, checks or proofs. */
 #include <stddef.h>
 
 enum { BUSES = 64, SOURCES = 256, FIELDS = 5 };
@@ -17,7 +17,7 @@ struct study {
     double of_source[SOURCES][FIELDS];
 };
 
-/* What the walk reads: impedance of each branch, admittance and converters' current at each bus, rated volts of each branch. */
+/* What a walk or a sweep reads: impedance of each branch, admittance and converters' current at each bus, rated volts of each branch. */
 struct columns {
     struct point z[BUSES], own[BUSES];
     double supplied[BUSES], above[BUSES], below[BUSES];
@@ -37,9 +37,12 @@ struct prepared {
 
 void read_study(const char *text, size_t length, struct study *s);
 
-/* A query by the sweeps of the proved one: the columns filled, and each bus on the way looks for its neighbours among all. */
+/* A query by a walk from its bus: the columns filled, and each bus on the way looks for its neighbours among all. */
 struct figures plain_query(const struct study *s, int bus);
 
 /* The same figures with everything prepared once for all buses. */
 void prepare(const struct study *s, struct prepared *p);
 struct figures prepared_query(const struct study *s, const struct prepared *p, int bus);
+
+/* The figures of all buses by two sweeps over the tree, towards bus 0 and away from it; nothing is subtracted. */
+void plain_board(const struct study *s, struct figures *rows);

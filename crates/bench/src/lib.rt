@@ -1,15 +1,21 @@
 // What C times: the operations of enclosing arithmetic (bench/enclosure.c), where a point goes in and comes out by its parts, reading
-// and querying a study (bench/queries.c), and writing it (bench/writes.c).
+// and querying a study (bench/queries.c), all its buses together (bench/boards.c), and writing it (bench/writes.c).
 ghost use mathlib.Core.Path.{_≡_};
-ghost use Prim.Native.Nat.{_<_, _+_};
+ghost use Prim.Native.Nat.{_<_, _≤_, _+_};
 ghost use Rattle.enclosure.specs.Doubles.{added, inverted, scaled, rootBelow};
-ghost use Rattle.network.specs.Network.{network};
+ghost use Rattle.network.specs.Network.{maxBuses, network};
 ghost use Rattle.reader.specs.File.{readOf};
-ghost use Rattle.bench.specs.Queries.{sumsOf};
+ghost use Rattle.bench.specs.Boards.{rowsAdded, boardsOf};
+ghost use Rattle.bench.specs.Queries.{sumOf, sumsOf};
 ghost use Rattle.bench.specs.Writes.{writtenTimes};
 use enclosure::Complex;
+use network::Amperes;
+use network::BUSES;
+use network::Found;
 use network::Study;
+use network::bus_total;
 use network::query;
+use network::query_all;
 use writer::write;
 
 #[no_mangle]
@@ -46,7 +52,19 @@ pub extern "C" fn enclosure_root_below(m: f64) -> u64
     enclosure::roots::root_below(m)
 }
 
-// The six figures of k queries, going round over the buses 0 to n - 1, added up: a figure that is not used would not be calculated.
+// The six figures of an answer, added up: a figure that is not used would not be calculated.
+fn sum_of(a: Amperes) -> f64
+    ensures { λ r. ⌜ r ≡ sumOf a ⌝ }
+{
+    a.lower.0
+        + a.upper.0
+        + a.peak.0
+        + a.converters_lower.0
+        + a.converters_upper.0
+        + a.converters_peak.0
+}
+
+// The six figures of k queries, going round over the buses 0 to n - 1, added up.
 fn sums(s: Study, n: u32, k: u32) -> f64
     requires { ⌜ 0 < n ⌝ }
     ensures { λ r. ⌜ r ≡ sumsOf (network s) n k ⌝ }
@@ -55,14 +73,7 @@ fn sums(s: Study, n: u32, k: u32) -> f64
     let mut i: u32 = 0;
     while i < k {
         let found = query(s, i % n);
-        let a = found.amperes;
-        total = total
-            + (a.lower.0
-                + a.upper.0
-                + a.peak.0
-                + a.converters_lower.0
-                + a.converters_upper.0
-                + a.converters_peak.0);
+        total = total + sum_of(found.amperes);
         i += 1;
     }
     total
@@ -76,6 +87,45 @@ pub extern "C" fn network_sums(text: &[u8], last: u8, k: u32) -> f64
     let reading = reader::read(text);
     let n = last as u32 + 1;
     sums(reading.study, n, k)
+}
+
+// The figures of the first n rows of a board, added to a total.
+fn with_rows(start: f64, rows: [Found; BUSES], n: usize) -> f64
+    requires { ⌜ n ≤ maxBuses ⌝ }
+    ensures { λ r. ⌜ r ≡ rowsAdded start rows n ⌝ }
+{
+    let mut total = start;
+    let mut i: usize = 0;
+    while i < n {
+        let found = rows[i];
+        total = total + sum_of(found.amperes);
+        i += 1;
+    }
+    total
+}
+
+// The figures of k boards of a study, each calculated anew, added up over the buses that there are.
+fn boards(s: Study, k: u32) -> f64
+    ensures { λ r. ⌜ r ≡ boardsOf (network s) k ⌝ }
+{
+    let n = bus_total(s);
+    let mut total = 0.0;
+    let mut i: u32 = 0;
+    while i < k {
+        let rows = query_all(s);
+        total = with_rows(total, rows, n);
+        i += 1;
+    }
+    total
+}
+
+// A text read, and k boards of its study.
+#[no_mangle]
+pub extern "C" fn network_boards(text: &[u8], k: u32) -> f64
+    ensures { λ r. ⌜ r ≡ boardsOf (readOf (now (text .entry)) .network) k ⌝ }
+{
+    let reading = reader::read(text);
+    boards(reading.study, k)
 }
 
 // A study written k times into the buffer; the length that the last writing reported.

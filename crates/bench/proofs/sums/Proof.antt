@@ -24,6 +24,9 @@ rem-query c = search needs
 query-requires : tie.Need-query-requires Inv-loop μ-loop
 query-requires c κs = search needs
 
+sum-of-requires : tie.Need-sum-of-requires Inv-loop μ-loop
+sum-of-requires c κs = search needs
+
 add-i : tie.Need-add-i Inv-loop μ-loop
 add-i c = omega arith
 
@@ -32,10 +35,10 @@ loop-less c = omega arith
 
 loop-again : tie.Need-loop-again Inv-loop μ-loop
 loop-again c =
-    let l = c .before .before .before .before .before .before .before .before in
+    let l = c .before .before .before in
     let a = l .before .args in (
       omega arith,
-      ap₂ (add binary64) (l .loop .inv .1) (ap sumOf (c .before .before .before .before .before .before .query .ensures .1 .0))
+      ap₂ (add binary64) (l .loop .inv .1) (c .sum-of .ensures ∙ ap sumOf (c .before .query .ensures .1 .0))
           ∙ sym (sums-more (network (a .s)) (a .n) (l .loop .i)),
     )
 
@@ -54,6 +57,7 @@ sums-spec =
     loop-holds
     rem-query
     query-requires
+    sum-of-requires
     add-i
     loop-less
     loop-again
