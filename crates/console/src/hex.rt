@@ -1,8 +1,11 @@
 // Text in hexadecimal digits.
 ghost use mathlib.Core.Path.{_≡_};
-ghost use Prim.Native.Nat.{_<_};
+ghost use mathlib.Core.Bool.{true};
+ghost use Prim.Native.Nat.{_+_, _*_, _/_, _≤_, _<_};
+ghost use lib.ListN.{length, take};
 ghost use Rattle.printing.specs.Line.{afterText};
 ghost use Rattle.console.specs.Answers.{hexDigit, hexByte, hexText};
+ghost use Rattle.console.specs.Lines.{hexValue, hexPairs, hexBytes, decodedOf};
 use crate::input::part;
 use printing::LINE;
 use printing::put;
@@ -17,7 +20,9 @@ pub(crate) enum Decoded {
 }
 
 // The value of a digit, 16 for any other byte.
-fn digit(x: u8) -> u8 {
+fn digit(x: u8) -> u8
+    ensures { λ r. ⌜ r ≡ hexValue x ⌝ }
+{
     if x < b'0' {
         return 16;
     }
@@ -39,18 +44,20 @@ fn digit(x: u8) -> u8 {
     16
 }
 
-// The byte of two digits.
-fn pair(high: u8, low: u8) -> u8 {
-    if high < 16 {
-        if low < 16 {
-            return 16 * high + low;
-        }
-    }
-    0
+// The byte of two digits, by their values.
+fn pair(high: u8, low: u8) -> u8
+    requires { ⌜ (high < 16) × (low < 16) ⌝ }
+    ensures { λ r. ⌜ r ≡ 16 * high + low ⌝ }
+{
+    16 * high + low
 }
 
-// Puts the bytes of the digits into the text.
-pub(crate) fn decode(digits: &[u8], text: &mut [u8; TEXT]) -> Decoded {
+// Puts the bytes of the digits into the text; broken where they are not pairs of digits, or too many. That the text has its 70,000 places
+// is a hypothesis: of an array behind a reference the prover does not know the length by itself.
+pub(crate) fn decode(digits: &[u8], text: &mut [u8; TEXT]) -> Decoded
+    ensures result { λ r. ⌜ r ≡ decodedOf (now (digits .entry)) ⌝ }
+    ensures bytes { λ r. ⌜ (hexPairs (now (digits .entry)) ≡ true → length (now (digits .entry)) ≤ 140000 → length (now (text .entry)) ≡ 70000 → take (length (now (digits .entry)) / 2) (now (text .exit)) ≡ hexBytes (now (digits .entry))) ⌝ }
+{
     let n = digits.len() / 2;
     if n + n != digits.len() {
         return Decoded::Broken;
@@ -62,7 +69,10 @@ pub(crate) fn decode(digits: &[u8], text: &mut [u8; TEXT]) -> Decoded {
     while i < n {
         let high = digit(digits[i + i]);
         let low = digit(digits[i + i + 1]);
-        if (high == 16) | (low == 16) {
+        if high >= 16 {
+            return Decoded::Broken;
+        }
+        if low >= 16 {
             return Decoded::Broken;
         }
         text[i] = pair(high, low);

@@ -1,8 +1,12 @@
 // The word that a line begins with, and what follows it.
 ghost use mathlib.Core.Path.{_≡_};
 ghost use lib.ListN.{drop};
+ghost use Rattle.console.specs.Lines.{beginsWith, isWord};
 
-pub(crate) fn begins(line: &[u8], word: &[u8]) -> bool {
+// Whether a line begins with a word.
+pub(crate) fn begins(line: &[u8], word: &[u8]) -> bool
+    ensures { λ r. ⌜ r ≡ beginsWith (now (word .entry)) (now (line .entry)) ⌝ }
+{
     if line.len() < word.len() {
         return false;
     }
@@ -16,7 +20,10 @@ pub(crate) fn begins(line: &[u8], word: &[u8]) -> bool {
     true
 }
 
-pub(crate) fn is(line: &[u8], word: &[u8]) -> bool {
+// Whether it is that word.
+pub(crate) fn is(line: &[u8], word: &[u8]) -> bool
+    ensures { λ r. ⌜ r ≡ isWord (now (word .entry)) (now (line .entry)) ⌝ }
+{
     if line.len() == word.len() {
         return begins(line, word);
     }

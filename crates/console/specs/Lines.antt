@@ -1,0 +1,39 @@
+-- How a line is taken apart, by README, "Answers": the word that it begins with, and text in hexadecimal digits. Definitions alone.
+use Prim.Native.Nat.{ℕ, _+_, _*_, _-_, _/_}
+use mathlib.Core.Bool.{Bool, true, false, cond, _&&_}
+use mathlib.Core.List.{List, [], _∷_}
+use lib.Dec.{leb, ltb, eqb}
+use lib.ListN.{length}
+use Rattle.console.specs.declared.hex.Decoded.{Decoded}
+use Rattle.console.specs.declared.hex.Decoded.the-variants.{Bytes, Broken}
+
+-- whether a line begins with a word, and whether it is that word
+abbrev pub beginsWith : List ℕ → List ℕ → Bool
+beginsWith [] line = true
+beginsWith (w ∷ word) [] = false
+beginsWith (w ∷ word) (x ∷ line) = eqb x w && beginsWith word line
+
+abbrev pub isWord : List ℕ → List ℕ → Bool
+isWord word line = eqb (length line) (length word) && beginsWith word line
+
+-- a byte as a hexadecimal digit, of either case; 16 where it is none
+abbrev pub within : ℕ → ℕ → ℕ → Bool
+within first last x = leb first x && leb x last
+
+unfoldable pub hexValue : ℕ → ℕ
+hexValue x = cond (within 48 57 x) (x - 48) (cond (within 65 70 x) (x - 55) (cond (within 97 102 x) (x - 87) 16))
+
+-- whether a text is pairs of digits, and the bytes that they are
+abbrev pub hexPairs : List ℕ → Bool
+hexPairs [] = true
+hexPairs (x ∷ []) = false
+hexPairs (x ∷ y ∷ rest) = (ltb (hexValue x) 16 && ltb (hexValue y) 16) && hexPairs rest
+
+abbrev pub hexBytes : List ℕ → List ℕ
+hexBytes [] = []
+hexBytes (x ∷ []) = []
+hexBytes (x ∷ y ∷ rest) = (16 * hexValue x + hexValue y) ∷ hexBytes rest
+
+-- "HEX is a study's text in hexadecimal digits; an input line has at most 140,000 bytes": what the digits give
+unfoldable pub decodedOf : List ℕ → Decoded
+decodedOf digits = cond (hexPairs digits && leb (length digits) 140000) (Bytes (length digits / 2)) Broken
