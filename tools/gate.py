@@ -1,4 +1,4 @@
-"""The gate of this repository, started by ./test; README.md says how it decides.
+"""The gate of this repository, started by ./test; docs/GATE.md says how it decides.
 
 Prints what each part prints, then a table of the parts, the reasons of failure, and last `N passed, M failed`. The tests of tests/ run
 side by side, and print in order."""
