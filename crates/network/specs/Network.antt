@@ -4,7 +4,7 @@ use mathlib.Core.List.{List}
 use Prim.Native.Nat.{ℕ, _+_}
 use lib.Dec.{eqb}
 use lib.ListN.{take, getD}
-pub use Rattle.tree.specs.Limits.{maxBuses, maxSources, maxBranches, maxTransformers}
+pub use Rattle.tree.specs.Limits.{Limits, here, maxBuses, maxSources, maxBranches, maxTransformers}
 use Rattle.tree.specs.Toward.{toward}
 use Rattle.network.specs.declared.Bus.{Bus}
 use Rattle.network.specs.declared.Source.{Source}

@@ -9,6 +9,14 @@ maxBuses = 64
 abbrev pub maxSources : ℕ
 maxSources = 256
 
+-- the two limits of an edition of the program, since editions with others meet in one file; and those of this one
+pub record Limits : Type 0 where
+  pub buses : ℕ
+  pub sources : ℕ
+
+abbrev pub here : Limits
+here = record { buses = maxBuses; sources = maxSources }
+
 -- "At most 18 branches, 4 of them transformers, lead from bus 0 to any bus."
 abbrev pub maxBranches : ℕ
 maxBranches = 18
