@@ -10,7 +10,7 @@ use lib.ListN.{length}
 use Rattle.network.specs.declared.Bus.{Bus}
 use Rattle.network.specs.declared.Source.{Source}
 use Rattle.network.specs.Network.{Network, maxBuses, maxSources, busAt, anyBranch, ifTransformer}
-use Rattle.network.specs.Grounds.{Ground, first, parentOk, depthOk, busGrounds, busRecordNumber, addBusGrounds, busNumber, sourceGrounds, sourceRecordNumber, addSourceGrounds, sourceNumber, closeGrounds, closeNumber}
+use Rattle.network.specs.Grounds.{Ground, first, parentOk, depthOk, busGrounds, busRecordNumber, addBusGrounds, busNumberIn, busNumber, sourceGrounds, sourceRecordNumber, addSourceGrounds, sourceNumberIn, sourceNumber, closeGrounds, closeNumber}
 use Rattle.network.specs.Booleans.{by-test, both-true, at-zero, past-zero}
 use Rattle.network.specs.Ways.{Same, way-same}
 
@@ -57,30 +57,30 @@ bus-record-same l m i s =
 
 -- an open network with room tries the record as its next bus
 pub bus-number-open : (n : Network) (b : Bus) → n .closed ≡ false → length (n .buses) < maxBuses → busNumber n b ≡ busRecordNumber (n .buses ++ (b ∷ [])) (length (n .buses))
-unfolding busNumber busRecordNumber
+unfolding busNumberIn busRecordNumber
 bus-number-open n b o h = rw (o, lt-ltb (length (n .buses)) maxBuses h)
 
 pub bus-room : (n : Network) (b : Bus) → busNumber n b ≡ 0 → length (n .buses) < maxBuses
-unfolding busNumber
+unfolding busNumberIn
 bus-room n b e = ltb-true (length (n .buses)) maxBuses (passed (addBusGrounds n b) refl e .1 .0)
 
 -- an accepted record passes the grounds in the input as the next bus
 pub bus-accepted : (n : Network) (b : Bus) → busNumber n b ≡ 0 → busRecordNumber (n .buses ++ (b ∷ [])) (length (n .buses)) ≡ 0
-unfolding busNumber busRecordNumber
+unfolding busNumberIn busRecordNumber
 bus-accepted n b e =
     accepted (busGrounds (n .buses ++ (b ∷ [])) (length (n .buses))) (passed (addBusGrounds n b) refl e .1 .1)
 
 -- ---- sources
 pub source-number-open : (n : Network) (p : Source) → n .closed ≡ false → length (n .sources) < maxSources → sourceNumber n p ≡ sourceRecordNumber (n .buses) (length (n .sources)) p
-unfolding sourceNumber sourceRecordNumber
+unfolding sourceNumberIn sourceRecordNumber
 source-number-open n p o h = rw (o, lt-ltb (length (n .sources)) maxSources h)
 
 pub source-room : (n : Network) (p : Source) → sourceNumber n p ≡ 0 → length (n .sources) < maxSources
-unfolding sourceNumber
+unfolding sourceNumberIn
 source-room n p e = ltb-true (length (n .sources)) maxSources (passed (addSourceGrounds n p) refl e .1 .0)
 
 pub source-accepted : (n : Network) (p : Source) → sourceNumber n p ≡ 0 → sourceRecordNumber (n .buses) (length (n .sources)) p ≡ 0
-unfolding sourceNumber sourceRecordNumber
+unfolding sourceNumberIn sourceRecordNumber
 source-accepted n p e =
     accepted (sourceGrounds (n .buses) (length (n .sources)) p) (passed (addSourceGrounds n p) refl e .1 .1)
 

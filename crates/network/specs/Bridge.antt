@@ -9,6 +9,7 @@ use lib.Dec.{ltb}
 use lib.ListN.{length, getD, List·getD-eq-default}
 use borrow.Author.Tests.{ltb-true, ltb-false}
 use Rattle.enclosure.specs.Doubles.{none, added, doubles}
+use Rattle.tree.specs.Limits.{maxBranches, walkSteps}
 use Rattle.tree.specs.Toward.{depth, depth-same}
 use Rattle.tree.specs.Grid.{parentOf, Treelike, Shaped, seenBy, seen-same}
 use Rattle.tree.specs.Sums.{sumOf, sum-same}
@@ -64,16 +65,16 @@ module _ (n : Network) (few : length (n .buses) ≤ maxBuses) where
     falling : Treelike (treeGrid (n .buses))
     falling i z l = rw (shaped .parent i l) (sound .tree i z l)
 
-    shallow : (i : ℕ) → i < length (n .buses) → depth (parentOf (treeGrid (n .buses))) i ≤ 18
+    shallow : (i : ℕ) → i < length (n .buses) → depth (parentOf (treeGrid (n .buses))) i ≤ maxBranches
     shallow i l = rw (depth-same (parentOf (treeGrid (n .buses))) (parentOf (gridOf n)) (length (n .buses)) (shaped .parent) i l) (sound .shallow i l)
 
     -- WHAT THE SWEEPS SEE AT A BUS IS WHAT THE WALK SEES THERE
-    pub seen-walk : (b : ℕ) → b < length (n .buses) → seenAt n b ≡ seenBy doubles (branchesBy n) (ownBy n) (gridOf n) 37 b b
+    pub seen-walk : (b : ℕ) → b < length (n .buses) → seenAt n b ≡ seenBy doubles (branchesBy n) (ownBy n) (gridOf n) walkSteps b b
     unfolding seenAt boardOf
     seen-walk b l =
         all-walk (pointOf (branchPoints (n .tolerance) (n .buses))) (treeGrid (n .buses)) (standingOf (n .tolerance) (treeOf (n .buses) .volts) (n .sources) .own) few own-sized falling shallow b l
         ∙ seen-same doubles (pointOf (branchPoints (n .tolerance) (n .buses))) (branchesBy n) (pointOf (standingOf (n .tolerance) (treeOf (n .buses) .volts) (n .sources) .own)) (ownBy n) (treeGrid (n .buses)) (gridOf n) shaped
-        (λ i z m. branch-column i m) (λ c m. own-column c m) 37 b b l
+        (λ i z m. branch-column i m) (λ c m. own-column c m) walkSteps b b l
 
   -- and the converters' part over the columns is that over the tree
   pub carried-tree : (b : ℕ) → b < length (n .buses) → carriedAt n b ≡ carriedBy doubles (convertersBy n) (gridOf n) b

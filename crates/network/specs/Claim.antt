@@ -26,6 +26,7 @@ use Rattle.elements.specs.NearPeak.{NearConverterPeak}
 use Rattle.elements.specs.PeakLaw.{near-bound, peak-scale}
 use Rattle.elements.specs.Currents.{converterPeakBy}
 use Rattle.elements.specs.Figures.{MachineFigures, machine-figures, ConverterFigures, converter-figures}
+use Rattle.tree.specs.Limits.{wayRatio, ownUnits, currentUnits, seenUnits, carriedUnits, coveredBuses, coveredSources, mostUnits, seenMost}
 use Rattle.tree.specs.Grid.{seen}
 use Rattle.tree.specs.Converters.{carried, carried-real}
 use Rattle.tree.specs.Sums.{sums}
@@ -36,10 +37,10 @@ use Rattle.tree.specs.Fed.{seen-reactive}
 use Rattle.tree.specs.Seen.{seen-near, seen-low, seen-high}
 use Rattle.tree.specs.Rooted.{carried-proper}
 use Rattle.tree.specs.Currents.{carried-near, carried-range, carried-most}
-use Rattle.network.specs.Network.{Network}
+use Rattle.network.specs.Network.{Network, maxBuses}
 use Rattle.network.specs.Calls.{Call, run}
 use Rattle.network.specs.Rebuilt.{Rebuilt, run-rebuilt}
-use Rattle.network.specs.Facts.{bus-volts, few-buses, few-sources, closed-source}
+use Rattle.network.specs.Facts.{bus-volts, few-buses, closed-source}
 use Rattle.network.specs.Grid.{gridOf, converterAt, isConverter}
 use Rattle.network.specs.Demand.{Whole, MachinesHold, ConvertersHold, Demand}
 use Rattle.network.specs.NearPeaks.{MachinePeak, ConverterPeak, NearPeaks}
@@ -47,7 +48,7 @@ use Rattle.network.specs.Rounded.{ownBy, convertersBy, branchesBy, seenA
 use Rattle.network.specs.Elements.{branchMost, machineMost}
 use Rattle.network.specs.Ranges.{voltsOf, sound, levels, referred-least, near-branch}
 use Rattle.network.specs.Bridge.{seen-walk, carried-tree}
-use Rattle.network.specs.Standing.{countOf, counted-once, plain, own-near, own-volts, fed, amperes, current-near, current-counted, current-real}
+use Rattle.network.specs.Standing.{covered-sources, countOf, counted-once, plain, own-near, own-volts, fed, amperes, current-near, current-counted, current-real}
 
 -- ---- over plain numbers: Y is (A, B)/D, so that Z is (A·D, B·D)/(A² + B²)
 module _ (c u A B D : ℕ) where
@@ -57,12 +58,11 @@ module _ (c u A B D : ℕ) where
   above-as : (i : ℕ) → 1 * norm (A * u * c) (B * u * c) ≤ 3 * (i * i * (D * 1 * 100 * (D * 1 * 100))) → c * u * (c * u) * (norm A B * norm A B) ≤ 30000 * (i * i) * norm (A * D) (B * D)
   above-as i h = from (c ∷ u ∷ A ∷ B ∷ D ∷ i ∷ []) (norm A B ⋆ h) (search read depth 40 fits 20000) refl
 
-  -- (re + im)·Un is at most 2 ^ 49, so that √3·I is at most 2 ^ 50
-  room-of : c ≤ 110 → (A + B) * u ≤ 2 ^ 49 * D → c * u * (c * u) * norm A B ≤ 2 ^ 100 * (10000 * (D * D))
+  -- √3·I is at most 2 ^ 50
+  room-of : c ≤ 110 → (A + B) * u ≤ seenMost * D → c * u * (c * u) * norm A B ≤ 2 ^ 100 * (10000 * (D * D))
   room-of hc h = from (c ∷ u ∷ A ∷ B ∷ D ∷ []) (u * u * ((A + B) * (A + B)) ⋆ mul-le-mul hc hc ⊹ 12100 ⋆ mul-le-mul h h) (search read depth 40 fits 20000) refl
 
--- 64 branches and 256 machines
-tall : (k : ℕ) → k ≤ 64 → machineMost * 256 + branchMost * k ≤ 2 ^ 49
+tall : (k : ℕ) → k ≤ coveredBuses → machineMost * coveredSources + branchMost * k ≤ seenMost
 tall k h = omega arith
 
 -- Z of an admittance that is not nothing
@@ -119,12 +119,12 @@ converters-hold P x d e f = record {
     high : (i a b d : ℕ) → b ≡ 0 → 1 * norm a b ≤ 1 * (i * i * (d * d)) → a * a ≤ i * d * (i * d)
     high i a b d e h = from (i ∷ a ∷ d ∷ []) (rw e at h) (search read depth 40 fits 20000) refl
 
--- 256 converters of 30,000 A at the highest voltage, seen at the lowest
-few-amperes : (u S A B D : ℕ) → 100 ≤ u → S ≤ 2 ^ 34 * 256 → (A + B) * u ≤ 1400 * S * D → norm A B ≤ 2 ^ 100 * (D * D)
+-- as many converters of 30,000 A at the highest voltage, seen at the lowest
+few-amperes : (u S A B D : ℕ) → 100 ≤ u → S ≤ 2 ^ 34 * coveredSources → (A + B) * u ≤ wayRatio * S * D → norm A B ≤ 2 ^ 100 * (D * D)
 few-amperes u S A B D hu hs h = from (A ∷ B ∷ D ∷ []) (mul-le-mul small small) (search read depth 40 fits 20000) refl
   where
     small : A + B ≤ 2 ^ 50 * D
-    small = from-over (u ∷ S ∷ A ∷ B ∷ D ∷ []) 100 (lit< tt) ((A + B) ⋆ hu ⊹ h ⊹ 1400 * D ⋆ hs) (search read depth 40 fits 20000) refl
+    small = from-over (u ∷ S ∷ A ∷ B ∷ D ∷ []) 100 (lit< tt) ((A + B) ⋆ hu ⊹ h ⊹ wayRatio * D ⋆ hs) (search read depth 40 fits 20000) refl
 
 sums-times : (c : ℕ) (f : ℕ → ℕ) (n : ℕ) → sums (λ i. c * f i) n ≡ c * sums f n
 sums-times c f zero = omega arith
@@ -136,13 +136,16 @@ order q D l u X z h k = root-le l u (from-over (q ∷ D ∷ l ∷ u ∷ X ∷ []
 
 module _ {n : Network} (r : Rebuilt n) (source : 0 < length (n .sources)) (b : ℕ) (lb : b < length (n .buses)) where
   abbrev units : ℕ
-  units = 1069 + (46 + 4 * length (n .buses)) * 37
+  units = seenUnits ownUnits (length (n .buses))
 
-  few : length (n .buses) ≤ 64
+  few : length (n .buses) ≤ maxBuses
   few = few-buses r
 
-  few-units : units ≤ 20000
-  few-units = let m = few in omega arith
+  covered : length (n .buses) ≤ coveredBuses
+  covered = le-trans few (lit≤ tt)
+
+  few-units : units ≤ mostUnits
+  few-units = let m = covered in omega arith
 
   some : 0 < voltsOf n b
   some = le-trans (lit≤ tt) (bus-volts r b lb .0)
@@ -152,22 +155,20 @@ module _ {n : Network} (r : Rebuilt n) (source : 0 < length (n .sources)) (b : �
 
   seen-held : Held units (seen (gridOf n) b b) (seenAt n b)
   seen-held =
-      let m = few in
       rw (seen-walk n few (sound r) b lb)
-      (seen-near (gridOf n) (voltsOf n) (sound r) (levels r) (plain r) (omega arith) (branchesBy n) (ownBy n) 1069 (lit≤ tt)
-      (λ i z l. held-more 24 1069 _ _ (lit≤ tt) (near-branch r i z l)) (λ c l. own-near r c) b b lb)
+      (seen-near (gridOf n) (voltsOf n) (sound r) (levels r) (plain r) covered (branchesBy n) (ownBy n) ownUnits (lit≤ tt)
+      (λ i z l. held-more 24 ownUnits _ _ (lit≤ tt) (near-branch r i z l)) (λ c l. own-near r c) b b lb)
 
   seen-good : NearTo value (Good 200 units) parts units (seen (gridOf n) b b) (seenAt n b)
   seen-good =
-      let m = few in
       let k = few-units in
-      held-good units _ _ (omega arith) seen-held (seen-low (gridOf n) (voltsOf n) (sound r) (levels r) (plain r) (omega arith) b b lb) (seen-high (gridOf n) (voltsOf n) (sound r) (levels r) (plain r) (omega arith) b b lb)
+      held-good units _ _ (omega arith) seen-held (seen-low (gridOf n) (voltsOf n) (sound r) (levels r) (plain r) covered b b lb) (seen-high (gridOf n) (voltsOf n) (sound r) (levels r) (plain r) covered b b lb)
 
   -- what is seen at b, times Un
-  seen-volts : (seen (gridOf n) b b .re + seen (gridOf n) b b .im) * voltsOf n b ≤ 2 ^ 49 * seen (gridOf n) b b .den
+  seen-volts : (seen (gridOf n) b b .re + seen (gridOf n) b b .im) * voltsOf n b ≤ seenMost * seen (gridOf n) b b .den
   seen-volts =
-      le-trans (seen-most (gridOf n) b (voltsOf n b) (machineMost * 256) branchMost (own-volts r b) (λ i l e. referred-least r b i lb l e) b)
-      (mul-le-mul (tall (length (n .buses)) few) (le-refl (seen (gridOf n) b b .den)))
+      le-trans (seen-most (gridOf n) b (voltsOf n b) (machineMost * coveredSources) branchMost (own-volts r b) (λ i l e. referred-least r b i lb l e) b)
+      (mul-le-mul (tall (length (n .buses)) covered) (le-refl (seen (gridOf n) b b .den)))
 
   machine-part : MachineFigures (factorC (n .tolerance) (voltsOf n b)) (voltsOf n b) (seen (gridOf n) b b) (seenAt n b)
   machine-part =
@@ -177,22 +178,22 @@ module _ {n : Network} (r : Rebuilt n) (source : 0 < length (n .sources)) (b : �
       (room-of _ (voltsOf n b) _ _ _ (c .1) seen-volts)
 
   -- ---- the converters' part
-  converters-few : (carried (gridOf n) b .re + carried (gridOf n) b .im) * voltsOf n b ≤ 1400 * sums (λ i. 2 ^ 34 * countOf (converterAt i) (n .sources)) (length (n .buses)) * carried (gridOf n) b .den
+  converters-few : (carried (gridOf n) b .re + carried (gridOf n) b .im) * voltsOf n b ≤ wayRatio * sums (λ i. 2 ^ 34 * countOf (converterAt i) (n .sources)) (length (n .buses)) * carried (gridOf n) b .den
   converters-few = carried-most (gridOf n) (voltsOf n) (sound r) (levels r) (λ i. 2 ^ 34 * countOf (converterAt i) (n .sources)) (amperes r .proper) (λ i l. current-counted r i) b lb
 
   converters-room : norm (carried (gridOf n) b .re) (carried (gridOf n) b .im) ≤ 2 ^ 100 * (carried (gridOf n) b .den * carried (gridOf n) b .den)
   converters-room =
       few-amperes (voltsOf n b) _ _ _ _ (bus-volts r b lb .0)
-      (le-trans (le-of-eq (sums-times (2 ^ 34) (λ i. countOf (converterAt i) (n .sources)) (length (n .buses)))) (mul-le-mul (le-refl (2 ^ 34)) (le-trans (counted-once isConverter (n .sources) (length (n .buses))) (few-sources r))))
+      (le-trans (le-of-eq (sums-times (2 ^ 34) (λ i. countOf (converterAt i) (n .sources)) (length (n .buses)))) (mul-le-mul (le-refl (2 ^ 34)) (le-trans (counted-once isConverter (n .sources) (length (n .buses))) (covered-sources r))))
       converters-few
 
   converter-part : ConverterFigures (carried (gridOf n) b) (carriedAt n b)
   converter-part =
-      let m = few in
+      let m = covered in
       let volts : (i : ℕ) → i < length (n .buses) → 0 < voltsOf n i = λ i l. le-trans (lit≤ tt) (bus-volts r i l .0) in
-      let h = carried-near (gridOf n) (voltsOf n) (sound r) (levels r) (amperes r) (omega arith) (convertersBy n) 1032 (lit≤ tt) (λ i l. current-near r i (volts i l)) b lb in
-      let g = carried-range (gridOf n) (voltsOf n) (sound r) (levels r) (amperes r) (omega arith) (convertersBy n) 1032 (lit≤ tt) (λ i l. current-near r i (volts i l)) b lb in
-      rw (carried-tree n few b lb) (converter-figures (1032 + (288 + 4 * length (n .buses))) _ _ (omega arith) (h .0) (h .1) (sized-more (2 ^ 200) extent _ extent-range g) converters-room)
+      let h = carried-near (gridOf n) (voltsOf n) (sound r) (levels r) (amperes r) covered (convertersBy n) currentUnits (lit≤ tt) (λ i l. current-near r i (volts i l)) b lb in
+      let g = carried-range (gridOf n) (voltsOf n) (sound r) (levels r) (amperes r) covered (convertersBy n) currentUnits (lit≤ tt) (λ i l. current-near r i (volts i l)) b lb in
+      rw (carried-tree n few b lb) (converter-figures (carriedUnits currentUnits (length (n .buses))) _ _ (omega arith) (h .0) (h .1) (sized-more (2 ^ 200) extent _ extent-range g) converters-room)
 
   seen-fraction : 0 < seen (gridOf n) b b .den
   seen-fraction = seen-held .0 .left

@@ -16,8 +16,8 @@ use Rattle.tree.specs.Grid.{square}
 use Rattle.tree.specs.Bound.{AtMost, AtLeast}
 use Rattle.tree.specs.Sound.{Impedance}
 
--- (re + im)·Un of what is seen through one branch is at most 6.72·10¹² V·S, that of one machine at most 8.59·10⁹ V·S: 64 branches
--- and 256 machines together keep it at 2 ^ 49 or less, and √3·I at 2 ^ 50 A or less (Claim)
+-- (re + im)·Un of what is seen through one branch is at most 6.72·10¹² V·S, that of one machine at most 8.59·10⁹ V·S: as many
+-- of both as the laws cover together keep it at `seenMost` or less (Claim)
 abbrev pub branchMost : ℕ
 branchMost = 6720000000000
 

@@ -1,4 +1,5 @@
--- The grounds on which a call is refused, in the order in which document 01 has them tried, and the network after each call.
+-- The grounds on which a call is refused, in the order in which document 01 has them tried, and the network after each call. What depends
+-- on the limits is said of any edition of the program, by its limits L (`..In`), and then of this one (`here`).
 use mathlib.Core.Bool.{Bool, true, false, not, cond, _&&_, _||_}
 use mathlib.Core.List.{List, [], _∷_, _++_}
 use Prim.Native.Nat.{ℕ}
@@ -7,7 +8,7 @@ use lib.ListN.{length}
 use Rattle.network.specs.declared.Bus.{Bus}
 use Rattle.network.specs.declared.Source.{Source}
 use Rattle.network.specs.Records.{within, toleranceOk, voltsOk, ratingOk, branchOk, ratedOk, fieldsOk}
-use Rattle.network.specs.Network.{Network, maxBuses, maxSources, maxBranches, maxTransformers, busAt, parentOf, depthOf, transformersOf}
+use Rattle.network.specs.Network.{Network, Limits, here, maxBranches, maxTransformers, busAt, parentOf, depthOf, transformersOf}
 
 -- a ground: the test that a call has to pass, and the number that it is refused with
 pub record Ground : Type 0 where
@@ -76,21 +77,30 @@ unfoldable pub busRecordNumber : List Bus → ℕ → ℕ
 busRecordNumber l i = first (busGrounds l i)
 
 -- "State grounds are tried first, then rising numbers": 21 and 23, and then those of the record as the next bus
-abbrev pub addBusGrounds : Network → Bus → List Ground
-addBusGrounds n b =
+abbrev pub addBusGroundsIn : Limits → Network → Bus → List Ground
+addBusGroundsIn L n b =
     on (not (n .closed)) 21
-    ∷ on (ltb (length (n .buses)) maxBuses) 23
+    ∷ on (ltb (length (n .buses)) (L .buses)) 23
     ∷ busGrounds (n .buses ++ (b ∷ [])) (length (n .buses))
 
-unfoldable pub busNumber : Network → Bus → ℕ
-busNumber n b = first (addBusGrounds n b)
+unfoldable pub busNumberIn : Limits → Network → Bus → ℕ
+busNumberIn L n b = first (addBusGroundsIn L n b)
 
 -- "a refused call adds nothing to it"
-unfoldable pub afterBus : Network → Bus → Network
-afterBus n b =
-    cond (eqb (busNumber n b) 0)
+unfoldable pub afterBusIn : Limits → Network → Bus → Network
+afterBusIn L n b =
+    cond (eqb (busNumberIn L n b) 0)
     (record { tolerance = n .tolerance; closed = n .closed; buses = n .buses ++ (b ∷ []); sources = n .sources })
     n
+
+abbrev pub addBusGrounds : Network → Bus → List Ground
+addBusGrounds = addBusGroundsIn here
+
+abbrev pub busNumber : Network → Bus → ℕ
+busNumber = busNumberIn here
+
+abbrev pub afterBus : Network → Bus → Network
+afterBus = afterBusIn here
 
 -- ---- adding a source
 -- "13 machine rated voltage.", of a generator or a motor
@@ -114,20 +124,29 @@ sourceGrounds l j p =
 unfoldable pub sourceRecordNumber : List Bus → ℕ → Source → ℕ
 sourceRecordNumber l j p = first (sourceGrounds l j p)
 
-abbrev pub addSourceGrounds : Network → Source → List Ground
-addSourceGrounds n p =
+abbrev pub addSourceGroundsIn : Limits → Network → Source → List Ground
+addSourceGroundsIn L n p =
     on (not (n .closed)) 21
-    ∷ on (ltb (length (n .sources)) maxSources) 24
+    ∷ on (ltb (length (n .sources)) (L .sources)) 24
     ∷ sourceGrounds (n .buses) (length (n .sources)) p
 
-unfoldable pub sourceNumber : Network → Source → ℕ
-sourceNumber n p = first (addSourceGrounds n p)
+unfoldable pub sourceNumberIn : Limits → Network → Source → ℕ
+sourceNumberIn L n p = first (addSourceGroundsIn L n p)
 
-unfoldable pub afterSource : Network → Source → Network
-afterSource n p =
-    cond (eqb (sourceNumber n p) 0)
+unfoldable pub afterSourceIn : Limits → Network → Source → Network
+afterSourceIn L n p =
+    cond (eqb (sourceNumberIn L n p) 0)
     (record { tolerance = n .tolerance; closed = n .closed; buses = n .buses; sources = n .sources ++ (p ∷ []) })
     n
+
+abbrev pub addSourceGrounds : Network → Source → List Ground
+addSourceGrounds = addSourceGroundsIn here
+
+abbrev pub sourceNumber : Network → Source → ℕ
+sourceNumber = sourceNumberIn here
+
+abbrev pub afterSource : Network → Source → Network
+afterSource = afterSourceIn here
 
 -- ---- closing
 -- "21 study closed already (adding or closing)."; "25 closing without a source"

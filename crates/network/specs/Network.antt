@@ -4,25 +4,11 @@ use mathlib.Core.List.{List}
 use Prim.Native.Nat.{ℕ, _+_}
 use lib.Dec.{eqb}
 use lib.ListN.{take, getD}
+pub use Rattle.tree.specs.Limits.{Limits, here, maxBuses, maxSources, maxBranches, maxTransformers}
 use Rattle.tree.specs.Toward.{toward}
-use Rattle.sweep.specs.Columns as columns
 use Rattle.network.specs.declared.Bus.{Bus}
 use Rattle.network.specs.declared.Source.{Source}
 use Rattle.network.specs.declared.Study.{Study}
-
--- "At most 64 buses, 256 sources."
-abbrev pub maxBuses : ℕ
-maxBuses = columns.maxBuses
-
-abbrev pub maxSources : ℕ
-maxSources = 256
-
--- "At most 18 branches, 4 of them transformers, lead from bus 0 to any bus."
-abbrev pub maxBranches : ℕ
-maxBranches = 18
-
-abbrev pub maxTransformers : ℕ
-maxTransformers = 4
 
 -- "the tolerance of its start, the bus records and the source records of its accepted additions, each kind in order", and
 -- "whether its study is closed"

@@ -11,7 +11,7 @@ use lib.Seq.{length-take-le, take-all, take-suc, drop-cons, getD-take}
 use Rattle.network.specs.declared.Bus.{Bus}
 use Rattle.network.specs.declared.Source.{Source}
 use Rattle.network.specs.Network.{Network, blank, blankSource, busAt, sourceAt}
-use Rattle.network.specs.Grounds.{startNetwork, busNumber, afterBus, sourceNumber, afterSource, closeNumber, afterClose}
+use Rattle.network.specs.Grounds.{startNetwork, busNumber, afterBusIn, sourceNumber, afterSourceIn, closeNumber, afterClose}
 use Rattle.network.specs.Calls.{Call, step, runFrom, run-append, emptyNetwork, run}
 use Rattle.network.specs.Calls.Call.{starting, addingBus, addingSource, closing}
 use Rattle.network.specs.Booleans.{by-test}
@@ -51,13 +51,13 @@ abbrev pub callsOf : Network → List Call
 callsOf n = starting (n .tolerance) ∷ (map addingBus (n .buses) ++ (map addingSource (n .sources) ++ cond (n .closed) (closing ∷ []) []))
 
 buses-added : {n : Network} → Rebuilt n → runFrom (opened (n .tolerance) [] []) (map addingBus (n .buses)) ≡ opened (n .tolerance) (n .buses) []
-unfolding afterBus
+unfolding afterBusIn
 buses-added {n} r =
     added addingBus (λ l. opened (n .tolerance) l []) blank (n .buses)
     (λ i h. rw (take-suc (n .buses) i blank h) (granted _ _ _ (bus-in-turn r i h)))
 
 sources-added : {n : Network} → Rebuilt n → runFrom (opened (n .tolerance) (n .buses) []) (map addingSource (n .sources)) ≡ opened (n .tolerance) (n .buses) (n .sources)
-unfolding afterSource
+unfolding afterSourceIn
 sources-added {n} r =
     added addingSource (λ l. opened (n .tolerance) (n .buses) l) blankSource (n .sources)
     (λ j h. rw (take-suc (n .sources) j blankSource h) (granted _ _ _ (source-in-turn r j h)))

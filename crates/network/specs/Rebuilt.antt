@@ -13,7 +13,7 @@ use Rattle.network.specs.declared.Bus.{Bus}
 use Rattle.network.specs.declared.Source.{Source}
 use Rattle.network.specs.Records.{toleranceOk}
 use Rattle.network.specs.Network.{Network, maxBuses, maxSources, blank, blankSource, sourceAt}
-use Rattle.network.specs.Grounds.{emptyOf, startNetwork, busRecordNumber, busNumber, afterBus, sourceGrounds, sourceRecordNumber, sourceNumber, afterSource, closeNumber, afterClose}
+use Rattle.network.specs.Grounds.{emptyOf, startNetwork, busRecordNumber, busNumber, afterBusIn, afterBus, sourceGrounds, sourceRecordNumber, sourceNumber, afterSourceIn, afterSource, closeNumber, afterClose}
 use Rattle.network.specs.Calls.{Call, step, runFrom, run}
 use Rattle.network.specs.Calls.Call.{starting, addingBus, addingSource, closing, querying}
 use Rattle.network.specs.Booleans.{by-test, never}
@@ -81,7 +81,7 @@ after : (k : ℕ) (x n : Network) → Rebuilt n → (k ≡ 0 → Rebuilt x) → 
 after k x n r h = by-test (eqb k 0) (λ t. rw t (h (eqb-true k 0 t))) (λ t. rw t r)
 
 rebuilt-bus : (n : Network) (b : Bus) → Rebuilt n → Rebuilt (afterBus n b)
-unfolding afterBus
+unfolding afterBusIn
 rebuilt-bus n b r =
     after (busNumber n b) _ n r
     (λ e. record {
@@ -94,7 +94,7 @@ rebuilt-bus n b r =
     })
 
 rebuilt-source : (n : Network) (p : Source) → Rebuilt n → Rebuilt (afterSource n p)
-unfolding afterSource
+unfolding afterSourceIn
 rebuilt-source n p r =
     after (sourceNumber n p) _ n r
     (λ e. record {

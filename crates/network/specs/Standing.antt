@@ -13,6 +13,7 @@ use Rattle.algebra.specs.Reading.{from, read, _⊹_, _⋆_}
 use Rattle.enclosure.specs.Point.{Point, nothing, sum}
 use Rattle.elements.specs.Impedance.{converter}
 use Rattle.enclosure.specs.Near.{inverse-proper}
+use Rattle.tree.specs.Limits.{ownUnits, currentUnits, coveredSources, ownMost, currentMost}
 use Rattle.tree.specs.Bound.{AtMost, most-more, most-sum}
 use Rattle.tree.specs.Sums.{sumOf, sums}
 use Rattle.tree.specs.Held.{Held, held-more}
@@ -91,38 +92,38 @@ counted-at : (c : Source → Bool) (b : ℕ) (p : Source) → c p && eqb (p .bus
 counted-at c b p e = let t = both-true (c p) (eqb (p .bus) b) e in (t .0, eqb-true (p .bus) b (t .1))
 
 module _ {n : Network} (r : Rebuilt n) where
+  pub covered-sources : length (n .sources) ≤ coveredSources
+  covered-sources = le-trans (few-sources r) (lit≤ tt)
+
   -- ---- the machines at bus b
   module _ (b : ℕ) where
-    room : length (n .sources) ≤ 256
-    room = few-sources r
-
     own-held : Bounded (2 ^ 60) 1 (2 ^ 100 * length (n .sources)) (gridOf n .own b) × Held (45 + 4 * length (n .sources)) (gridOf n .own b) (ownBy n b)
     own-held =
-        let m = room in
+        let m = covered-sources in
         sum-held (machineAt b) (admittanceOf n) (machineBy n) blankSource (n .sources) (2 ^ 60) 1 (2 ^ 100) 45 (lit< tt) (lit≤ tt) (le-trans (mul-le-mul (le-refl (2 ^ 100)) m) (lit≤ tt)) (omega arith)
         (λ j l e. let t = counted-at isMachine b (sourceAt (n .sources) j) e in (machine-bounded r j l (t .0), machine-near r j l (t .0)))
 
-    pub own-near : Held 1069 (gridOf n .own b) (ownBy n b)
-    own-near = let m = room in held-more (45 + 4 * length (n .sources)) 1069 _ _ (omega arith) (own-held .1)
+    pub own-near : Held ownUnits (gridOf n .own b) (ownBy n b)
+    own-near = let m = covered-sources in held-more (45 + 4 * length (n .sources)) ownUnits _ _ (omega arith) (own-held .1)
 
     pub own-admittance : Admittance (gridOf n .own b)
     own-admittance = record {
       proper = own-held .0 .proper;
       least = own-held .0 .least;
-      most = wide (gridOf n .own b .re + gridOf n .own b .im) (gridOf n .own b .den) (length (n .sources)) room (own-held .0 .most);
+      most = wide (gridOf n .own b .re + gridOf n .own b .im) (gridOf n .own b .den) (length (n .sources)) covered-sources (own-held .0 .most);
     }
       where
-        wide : (s d k : ℕ) → k ≤ 256 → s * 1 ≤ 2 ^ 100 * k * d → s ≤ 2 ^ 108 * d
+        wide : (s d k : ℕ) → k ≤ coveredSources → s * 1 ≤ 2 ^ 100 * k * d → s ≤ ownMost * d
         wide s d k l h = from (s ∷ d ∷ k ∷ []) (h ⊹ 2 ^ 100 * d ⋆ l) (search read depth 40 fits 20000) refl
 
-    pub own-volts : AtMost (voltsOf n b) (machineMost * 256) (gridOf n .own b)
+    pub own-volts : AtMost (voltsOf n b) (machineMost * coveredSources) (gridOf n .own b)
     own-volts =
-        most-more (voltsOf n b) (0 + machineMost * countOf (machineAt b) (n .sources)) (machineMost * 256) _ (few (countOf (machineAt b) (n .sources)) (le-trans (count-few (machineAt b) (n .sources)) room))
+        most-more (voltsOf n b) (0 + machineMost * countOf (machineAt b) (n .sources)) (machineMost * coveredSources) _ (few (countOf (machineAt b) (n .sources)) (le-trans (count-few (machineAt b) (n .sources)) covered-sources))
         (counted (machineAt b) (admittanceOf n) blankSource (voltsOf n b) machineMost (n .sources)
         (λ j l e. let t = counted-at isMachine b (sourceAt (n .sources) j) e in subst (λ (c : ℕ). AtMost (voltsOf n c) machineMost (admittanceOf n (sourceAt (n .sources) j))) (t .1) (machine-volt-bounded r j l (t .0) .most))
         0 nothing (omega arith))
       where
-        few : (k : ℕ) → k ≤ 256 → 0 + machineMost * k ≤ machineMost * 256
+        few : (k : ℕ) → k ≤ coveredSources → 0 + machineMost * k ≤ machineMost * coveredSources
         few k h = omega arith
 
         count-few : (t : Source → Bool) (l : List Source) → countOf t l ≤ length l
@@ -160,12 +161,12 @@ module _ {n : Network} (r : Rebuilt n) where
 
     supply-held : 0 < voltsOf n b → Bounded (2 ^ 20) (voltsOf n b) (2 ^ 34 * length (n .sources)) (gridOf n .current b) × Held (8 + 4 * length (n .sources)) (gridOf n .current b) (convertersBy n b)
     supply-held z =
-        let m : length (n .sources) ≤ 256 = few-sources r in
+        let m = covered-sources in
         sum-held (converterAt b) currentOf suppliedBy blankSource (n .sources) (2 ^ 20) (voltsOf n b) (2 ^ 34) 8 z (lit≤ tt) (le-trans (mul-le-mul (le-refl (2 ^ 34)) m) (lit≤ tt)) (omega arith)
         (λ j l e. (bounded-at j l e, supply-near r j l (counted-at isConverter b (sourceAt (n .sources) j) e .0)))
 
-    pub current-near : 0 < voltsOf n b → Held 1032 (gridOf n .current b) (convertersBy n b)
-    current-near z = let m : length (n .sources) ≤ 256 = few-sources r in held-more (8 + 4 * length (n .sources)) 1032 _ _ (omega arith) (supply-held z .1)
+    pub current-near : 0 < voltsOf n b → Held currentUnits (gridOf n .current b) (convertersBy n b)
+    current-near z = let m = covered-sources in held-more (8 + 4 * length (n .sources)) currentUnits _ _ (omega arith) (supply-held z .1)
 
     pub current-counted : AtMost (voltsOf n b) (2 ^ 34 * countOf (converterAt b) (n .sources)) (gridOf n .current b)
     current-counted =
@@ -180,11 +181,11 @@ module _ {n : Network} (r : Rebuilt n) where
   amperes = record {
     proper = λ i l. supply-held i (some i l) .0 .proper;
     least = λ i l. supply-held i (some i l) .0 .least;
-    most = λ i l. wide (gridOf n .current i .re + gridOf n .current i .im) (voltsOf n i) (gridOf n .current i .den) (length (n .sources)) (few-sources r) (supply-held i (some i l) .0 .most);
+    most = λ i l. wide (gridOf n .current i .re + gridOf n .current i .im) (voltsOf n i) (gridOf n .current i .den) (length (n .sources)) covered-sources (supply-held i (some i l) .0 .most);
   }
     where
       some : (i : ℕ) → i < length (n .buses) → 0 < voltsOf n i
       some i l = le-trans (lit≤ tt) (bus-volts r i l .0)
 
-      wide : (s u d k : ℕ) → k ≤ 256 → s * u ≤ 2 ^ 34 * k * d → s * u ≤ 2 ^ 57 * d
+      wide : (s u d k : ℕ) → k ≤ coveredSources → s * u ≤ 2 ^ 34 * k * d → s * u ≤ currentMost * d
       wide s u d k l h = from (s ∷ u ∷ d ∷ k ∷ []) (h ⊹ 2 ^ 34 * d ⋆ l) (search read depth 40 fits 20000) refl

@@ -26,7 +26,7 @@ use Rattle.network.specs.declared.Verdict.the-variants.{Close}
 use Rattle.network.specs.Verdict.{verdictOn}
 use Rattle.network.specs.Network.{Network, along}
 use Rattle.network.specs.Records.{branchOk, fieldsOk}
-use Rattle.network.specs.Grounds.{depthOk, busRecordNumber, busNumber, afterBus, sourceRecordNumber, sourceNumber, afterSource, closeNumber, afterClose}
+use Rattle.network.specs.Grounds.{depthOk, busRecordNumber, busNumberIn, afterBusIn, sourceRecordNumber, sourceNumberIn, afterSourceIn, closeNumber, afterClose}
 use Rattle.network.specs.Calls.{Call, starting, addingBus, addingSource, closing, run}
 use Rattle.network.specs.Grid.{branchOf, aboveOf, belowOf, impedanceOf, impedanceAt, convertersAt}
 use Rattle.network.specs.Demand.{Figures, NotAbove, NotBelow, driving, MachinesHold, ConvertersHold, Demand}
@@ -60,7 +60,7 @@ twoCalls = starting 10 ∷ addingBus first ∷ addingBus second ∷ addingSource
 
 -- the calls that make it are accepted
 two-made : run twoCalls ≡ two
-unfolding run afterBus busNumber busRecordNumber branchOk depthOk along afterSource sourceNumber sourceRecordNumber fieldsOk afterClose closeNumber
+unfolding run afterBusIn busNumberIn busRecordNumber branchOk depthOk along afterSourceIn sourceNumberIn sourceRecordNumber fieldsOk afterClose closeNumber
 two-made = refl
 
 impedances : (impedanceAt two 0 .re ≡ 0) × (1000 * impedanceAt two 0 .im ≡ 825 * impedanceAt two 0 .den) × (impedanceAt two 1 .re ≡ 0) × (10 * impedanceAt two 1 .im ≡ 11 * impedanceAt two 1 .den)

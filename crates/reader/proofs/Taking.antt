@@ -10,7 +10,7 @@ use lib.Seq.{drop-drop}
 use Rattle.network.specs.Network.{Network}
 use Rattle.network.specs.Grounds.{closeNumber, afterClose}
 use Rattle.reader.specs.declared.Row.{Row}
-use Rattle.reader.specs.File.{rows, rowOf, rowNumber, afterRow, refusedAt, acceptedAs, closeAfter, readFrom}
+use Rattle.reader.specs.File.{rows, rowOf, rowNumber, afterRow, refusedAt, acceptedAs, closeAfter, readFromIn, readFrom}
 use Rattle.reader.specs.Stretches.{atCrlf, before, stretch, rows-step}
 
 rows-first : (l : List ℕ) → 0 < length l → rows l ≡ stretch atCrlf l ∷ rows (drop (before atCrlf l + 2) l)
@@ -27,15 +27,15 @@ module _ (text : List ℕ) (at end i : ℕ) (n : Network) (said : Row) (h : at <
       rw (rows-first (drop at text) (omega (arith, length-drop at text)), drop-drop (k + 2) at text, w, later)
 
   pub row-accepted : rowNumber n said ≡ 0 → readFrom i n (rows (drop at text)) ≡ readFrom (i + 1) (afterRow n said) (rows (drop (end + 2) text))
-  unfolding readFrom
+  unfolding readFromIn
   row-accepted z = rw (next, ← s, z)
 
   pub row-refused : (k : ℕ) → k ≡ rowNumber n said → (k ≡ 0 → ⊥) → readFrom i n (rows (drop at text)) ≡ refusedAt k (i + 1)
-  unfolding readFrom
+  unfolding readFromIn
   row-refused k z r = rw (next, ← s, ← z, ne-eqb k 0 r)
 
 pub rows-end : (text : List ℕ) (at i : ℕ) (n : Network) → length text ≤ at → readFrom i n (rows (drop at text)) ≡ closeAfter i n
-unfolding readFrom
+unfolding readFromIn
 rows-end text at i n h = rw (drop-of-length-le text h)
 
 module _ (i : ℕ) (n : Network) where

@@ -18,7 +18,7 @@ use Rattle.network.specs.NearPromise.{near-promised}
 use Rattle.network.specs.Booleans.{by-test}
 use Rattle.reader.specs.declared.Row.{Row}
 use Rattle.reader.specs.declared.Row.the-variants.{Start, WithBus, WithSource, Malformed}
-use Rattle.reader.specs.File.{maxBytes, rows, rowOf, rowNumber, afterRow, Outcome, closeAfter, readFrom, readOf}
+use Rattle.reader.specs.File.{maxBytes, rows, rowOf, rowNumber, afterRow, Outcome, closeAfter, readFromIn, readFrom, readIn, readOf}
 
 -- "an accepted file counts as a start, additions and a closing by its rows"
 abbrev pub callOf : Row → List Call
@@ -55,7 +55,7 @@ close-good i n e =
     (λ t. absurd (eqb-false (closeNumber n) 0 t (rw t at e)))
 
 from-good : (i : ℕ) (n : Network) (rs : List (List ℕ)) → readFrom i n rs .number ≡ 0 → Good (readFrom i n rs) (runFrom n (callsFrom i rs))
-unfolding readFrom
+unfolding readFromIn
 from-good i n [] e = close-good i n e
 from-good i n (r ∷ rs) e =
     let said = rowOf (eqb i 0) r in
@@ -65,7 +65,7 @@ from-good i n (r ∷ rs) e =
 
 module _ (text : List ℕ) (e : readOf text .number ≡ 0) where
   good : Good (readOf text) (run (calls text))
-  unfolding readOf run
+  unfolding readIn run
   good =
       by-test (within (length text) 1 maxBytes)
       (λ t. rw t (from-good 0 emptyNetwork (rows text) (rw t at e)))
@@ -102,7 +102,7 @@ module _ (text : List ℕ) (e : readOf text .number ≡ 0) where
 
 -- ---- refused
 from-refused : (i : ℕ) (n : Network) (rs : List (List ℕ)) → (readFrom i n rs .number ≡ 0 → ⊥) → readFrom i n rs .network ≡ emptyNetwork
-unfolding readFrom closeAfter
+unfolding readFromIn closeAfter
 from-refused i n [] h =
     by-test (eqb (closeNumber n) 0)
     (λ t. absurd (h (rw t)))
@@ -115,7 +115,7 @@ from-refused i n (r ∷ rs) h =
 
 -- "A refused start or file leaves tolerance 6 and no records"
 pub refused-run : (text : List ℕ) → (readOf text .number ≡ 0 → ⊥) → readOf text .network ≡ run (starting 6 ∷ [])
-unfolding readOf run
+unfolding readIn run
 refused-run text h =
     by-test (within (length text) 1 maxBytes)
     (λ t. rw t (from-refused 0 emptyNetwork (rows text) (rw t at h)))

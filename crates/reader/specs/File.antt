@@ -8,8 +8,8 @@ use lib.ListN.{length, getD}
 use Rattle.network.specs.declared.Bus.{Bus}
 use Rattle.network.specs.declared.Source.{Source}
 use Rattle.network.specs.Records.{within}
-use Rattle.network.specs.Network.{Network, network}
-use Rattle.network.specs.Grounds.{startNumber, startNetwork, busNumber, afterBus, sourceNumber, afterSource, closeNumber, afterClose}
+use Rattle.network.specs.Network.{Network, network, Limits, here}
+use Rattle.network.specs.Grounds.{startNumber, startNetwork, busNumberIn, afterBusIn, sourceNumberIn, afterSourceIn, closeNumber, afterClose}
 use Rattle.network.specs.Calls.{emptyNetwork}
 use Rattle.reader.specs.declared.Number.{Number}
 use Rattle.reader.specs.declared.Number.the-variants.{Value, Broken}
@@ -155,17 +155,23 @@ rowOf first (letter ∷ b ∷ rest) = cond (eqb b comma) (fieldsRow first letter
 
 -- ---- the four cases of `Row`: the number that a row is refused with, 0 where it is accepted, and the network after it
 -- "16 text breaks the file form: given for that row before its record is tried"
+abbrev pub rowNumberIn : Limits → Network → Row → ℕ
+rowNumberIn L n (Start t) = startNumber t
+rowNumberIn L n (WithBus b) = busNumberIn L n b
+rowNumberIn L n (WithSource p) = sourceNumberIn L n p
+rowNumberIn L n Malformed = 16
+
+abbrev pub afterRowIn : Limits → Network → Row → Network
+afterRowIn L n (Start t) = startNetwork t
+afterRowIn L n (WithBus b) = afterBusIn L n b
+afterRowIn L n (WithSource p) = afterSourceIn L n p
+afterRowIn L n Malformed = n
+
 abbrev pub rowNumber : Network → Row → ℕ
-rowNumber n (Start t) = startNumber t
-rowNumber n (WithBus b) = busNumber n b
-rowNumber n (WithSource p) = sourceNumber n p
-rowNumber n Malformed = 16
+rowNumber = rowNumberIn here
 
 abbrev pub afterRow : Network → Row → Network
-afterRow n (Start t) = startNetwork t
-afterRow n (WithBus b) = afterBus n b
-afterRow n (WithSource p) = afterSource n p
-afterRow n Malformed = n
+afterRow = afterRowIn here
 
 -- ---- the whole text
 pub record Outcome : Type 0 where
@@ -189,13 +195,20 @@ unfoldable pub closeAfter : ℕ → Network → Outcome
 closeAfter i n = cond (eqb (closeNumber n) 0) (acceptedAs (afterClose n)) (refusedAt (closeNumber n) i)
 
 -- "It stops at the first refusal": the rows that follow i others
-unfoldable pub readFrom : ℕ → Network → List (List ℕ) → Outcome
-readFrom i n [] = closeAfter i n
-readFrom i n (r ∷ rs) =
-    cond (eqb (rowNumber n (rowOf (eqb i 0) r)) 0)
-    (readFrom (i + 1) (afterRow n (rowOf (eqb i 0) r)) rs)
-    (refusedAt (rowNumber n (rowOf (eqb i 0) r)) (i + 1))
+unfoldable pub readFromIn : Limits → ℕ → Network → List (List ℕ) → Outcome
+readFromIn L i n [] = closeAfter i n
+readFromIn L i n (r ∷ rs) =
+    cond (eqb (rowNumberIn L n (rowOf (eqb i 0) r)) 0)
+    (readFromIn L (i + 1) (afterRowIn L n (rowOf (eqb i 0) r)) rs)
+    (refusedAt (rowNumberIn L n (rowOf (eqb i 0) r)) (i + 1))
+
+abbrev pub readFrom : ℕ → Network → List (List ℕ) → Outcome
+readFrom = readFromIn here
 
 -- "up to 65,536 bytes"; "for empty or overlong text, row 1"
-unfoldable pub readOf : List ℕ → Outcome
-readOf text = cond (within (length text) 1 maxBytes) (readFrom 0 emptyNetwork (rows text)) (refusedAt 16 1)
+unfoldable pub readIn : Limits → List ℕ → Outcome
+readIn L text = cond (within (length text) 1 maxBytes) (readFromIn L 0 emptyNetwork (rows text)) (refusedAt 16 1)
+
+-- WHAT A TEXT MEANS in this edition
+abbrev pub readOf : List ℕ → Outcome
+readOf = readIn here

@@ -9,11 +9,8 @@ use Rattle.enclosure.specs.declared.Complex.{Complex}
 use Rattle.enclosure.specs.Point.{nothing}
 use Rattle.enclosure.specs.Doubles.{nought, none}
 use Rattle.tree.specs.Grid.{Grid}
+pub use Rattle.tree.specs.Limits.{maxBuses}
 use Rattle.sweep.specs.declared.columns.Points.{Points}
-
--- document 01: "At most 64 buses"
-abbrev pub maxBuses : ℕ
-maxBuses = 64
 
 -- what f gives at n places, from i on
 abbrev pub listed : {A : Type 0} → (ℕ → A) → ℕ → ℕ → List A

@@ -16,6 +16,7 @@ use Rattle.enclosure.specs.Doubles.{doubles}
 use Rattle.enclosure.specs.Fair.{value, size, Fine}
 use Rattle.enclosure.specs.Range.{Good, Factor, f64-rules}
 use Rattle.enclosure.specs.declared.Complex.{Complex}
+use Rattle.tree.specs.Limits.{maxBranches, wayBranches, wayRatio, carriedUnits, coveredBuses, mostUnits, currentMost}
 use Rattle.tree.specs.Toward.{depth}
 use Rattle.tree.specs.Grid.{Grid, parentOf}
 use Rattle.tree.specs.Bound.{Low, low-more, low-sum}
@@ -111,31 +112,31 @@ module _ (G : Grid) (U : ℕ → ℕ) (sound : Sound G) (levels : Levels G U) wh
       put : (u g h : ℕ) → (0 + 0) * u * g ≤ 0 * h * 1
       put u g h = omega arith
 
-  -- ---- THE SIZE of the converters' part: (11/9)^36 is below 1,400
+  -- ---- THE SIZE of the converters' part: (11/9)^36 is below 1,400 (`wayRatio`)
   module _ (C : ℕ → ℕ) (proper : (i : ℕ) → i < G .count → 0 < G .current i .den)
       (most : (i : ℕ) → i < G .count → (G .current i .re + G .current i .im) * U i ≤ C i * G .current i .den) where
-    most-toRoot : (i : ℕ) → i < G .count → Most 18 0 (C i) (toRoot exact G i (G .current i))
+    most-toRoot : (i : ℕ) → i < G .count → Most maxBranches 0 (C i) (toRoot exact G i (G .current i))
     most-toRoot i l =
         let s = sound .shallow i l in
-        most-more (18 - depth (parentOf G) i) (depth (parentOf G) i) 18 0 (C i) _ (omega arith)
-        (toRoot-related exact exact G (sound .tree) 18 (λ d b x y. Most d b (C i) x) (λ d b x y m z k h. most-rises d b (C i) x z k h) (λ d b x y m z k h. most-falls d b (C i) x z k h)
+        most-more (maxBranches - depth (parentOf G) i) (depth (parentOf G) i) maxBranches 0 (C i) _ (omega arith)
+        (toRoot-related exact exact G (sound .tree) maxBranches (λ d b x y. Most d b (C i) x) (λ d b x y m z k h. most-rises d b (C i) x z k h) (λ d b x y m z k h. most-falls d b (C i) x z k h)
         i 0 (depth (parentOf G) i) (G .current i) (G .current i) l (omega arith) s (most-own i (C i) (G .current i) (proper i l) (most i l)))
 
-    most-gathered : (n : ℕ) → n ≤ G .count → Most 18 0 (sums C n) (gathered exact (G .current) G n)
-    most-gathered zero l = most-nothing 18 0
-    most-gathered (suc n) l = most-sum 18 0 (sums C n) (C n) _ _ (most-gathered n (omega arith)) (most-toRoot n l)
+    most-gathered : (n : ℕ) → n ≤ G .count → Most maxBranches 0 (sums C n) (gathered exact (G .current) G n)
+    most-gathered zero l = most-nothing maxBranches 0
+    most-gathered (suc n) l = most-sum maxBranches 0 (sums C n) (C n) _ _ (most-gathered n (omega arith)) (most-toRoot n l)
 
-    most-carried : (b : ℕ) → b < G .count → Most 36 b (sums C (G .count)) (carriedBy exact (G .current) G b)
+    most-carried : (b : ℕ) → b < G .count → Most wayBranches b (sums C (G .count)) (carriedBy exact (G .current) G b)
     most-carried b l =
         let s = sound .shallow b l in
-        most-more (18 - depth (parentOf G) b) (18 + depth (parentOf G) b) 36 b (sums C (G .count)) _ (omega arith)
-        (fromRoot-related exact exact G (sound .tree) 36 (λ d i x y. Most d i (sums C (G .count)) x) (λ d i x y m z k h. most-rises d i _ x z k h) (λ d i x y m z k h. most-falls d i _ x z k h)
-        b 18 (18 + depth (parentOf G) b) _ (gathered exact (G .current) G (G .count)) l refl (omega arith) (most-gathered (G .count) (le-refl (G .count))))
+        most-more (maxBranches - depth (parentOf G) b) (maxBranches + depth (parentOf G) b) wayBranches b (sums C (G .count)) _ (omega arith)
+        (fromRoot-related exact exact G (sound .tree) wayBranches (λ d i x y. Most d i (sums C (G .count)) x) (λ d i x y m z k h. most-rises d i _ x z k h) (λ d i x y m z k h. most-falls d i _ x z k h)
+        b maxBranches (maxBranches + depth (parentOf G) b) _ (gathered exact (G .current) G (G .count)) l refl (omega arith) (most-gathered (G .count) (le-refl (G .count))))
 
-    pub carried-most : (b : ℕ) → b < G .count → (carried G b .re + carried G b .im) * U b ≤ 1400 * sums C (G .count) * carried G b .den
+    pub carried-most : (b : ℕ) → b < G .count → (carried G b .re + carried G b .im) * U b ≤ wayRatio * sums C (G .count) * carried G b .den
     carried-most b l =
         let h = most-carried b l in
-        same-most (carried G b) (carriedBy exact (G .current) G b) (U b) (sums C (G .count)) (power 9 36) (power 11 36) 1400 (h .proper) (lit≤ tt) (lit≤ tt)
+        same-most (carried G b) (carriedBy exact (G .current) G b) (U b) (sums C (G .count)) (power 9 wayBranches) (power 11 wayBranches) wayRatio (h .proper) (lit≤ tt) (lit≤ tt)
         (carried-root G (sound .tree) (λ i z m. (sound .volts i z m .0 .0, sound .volts i z m .1 .0)) proper b l) (h .most)
 
   -- ---- the calculation in f64: at b after d branches, each at a cost of 8
@@ -157,30 +158,30 @@ module _ (G : Grid) (U : ℕ → ℕ) (sound : Sound G) (levels : Levels G U) wh
   low-carried d b i p q x k (inl e) = inl (spread p (x .re) (x .im) e)
   low-carried d b i p q x k (inr h) = inr (carry-low (x .re) (x .im) (x .den) (U b) (U i) p q (2 ^ 20) (power 2 d) k h)
 
-  widest : 2 ^ 20 * power 2 36 * 2 ^ 19 ≤ 2 ^ 199
+  widest : 2 ^ 20 * power 2 wayBranches * 2 ^ 19 ≤ 2 ^ 199
   widest = lit≤ tt
 
-  tallest : 2 ^ 64 * power 11 36 ≤ 2 ^ 199
+  tallest : 2 ^ 64 * power 11 wayBranches ≤ 2 ^ 199
   tallest = lit≤ tt
 
   module _ (c : ℕ) (few : c ≤ 2 ^ 64) where
-    step-low : (d b : ℕ) (x : Point) → d ≤ 36 → b < G .count → Low (2 ^ 20 * power 2 d * U b) x → Low (2 ^ 199) x
-    step-low d b x l lb h = low-more _ (2 ^ 199) x (le-trans (mul-le-mul (mul-le-mul (le-refl (2 ^ 20)) (power-mono 2 d 36 (omega arith) l)) (levels .nominal b lb .1)) widest) h
+    step-low : (d b : ℕ) (x : Point) → d ≤ wayBranches → b < G .count → Low (2 ^ 20 * power 2 d * U b) x → Low (2 ^ 199) x
+    step-low d b x l lb h = low-more _ (2 ^ 199) x (le-trans (mul-le-mul (mul-le-mul (le-refl (2 ^ 20)) (power-mono 2 d wayBranches (omega arith) l)) (levels .nominal b lb .1)) widest) h
 
-    step-high : (d b : ℕ) (x : Point) → d ≤ 36 → b < G .count → Most d b c x → x .re + x .im ≤ 2 ^ 199 * x .den
+    step-high : (d b : ℕ) (x : Point) → d ≤ wayBranches → b < G .count → Most d b c x → x .re + x .im ≤ 2 ^ 199 * x .den
     step-high d b x l lb h =
         under (x .re + x .im) (U b) c (power 9 d) (power 11 d) (x .den) (2 ^ 199) (levels .nominal b lb .0) (power-pos 9 d (omega arith))
-        (le-trans (mul-le-mul few (power-mono 11 d 36 (omega arith) l)) tallest) (h .most)
+        (le-trans (mul-le-mul few (power-mono 11 d wayBranches (omega arith) l)) tallest) (h .most)
 
-    step-good : (k d b : ℕ) (x : Point) (y : Complex) → d ≤ 36 → k ≤ 1000000 → b < G .count → Most d b c x → Low (2 ^ 20 * power 2 d * U b) x → Held k x y → NearTo value (Good 200 k) parts k x y
+    step-good : (k d b : ℕ) (x : Point) (y : Complex) → d ≤ wayBranches → k ≤ 1000000 → b < G .count → Most d b c x → Low (2 ^ 20 * power 2 d * U b) x → Held k x y → NearTo value (Good 200 k) parts k x y
     step-good k d b x y l m lb h g n = held-good k x y (omega arith) n (step-low d b x l lb g) (step-high d b x l lb h)
 
-    step-scale : (k d b p q : ℕ) (x : Point) (y : Complex) → d < 36 → k ≤ 100000 → Factor p → Factor q → Step c k d b x y → Held (k + 8 * suc d) (times p q x) (doubles .scale p q y)
+    step-scale : (k d b p q : ℕ) (x : Point) (y : Complex) → d < wayBranches → k ≤ 100000 → Factor p → Factor q → Step c k d b x y → Held (k + 8 * suc d) (times p q x) (doubles .scale p q y)
     step-scale k d b p q x y l m vp vq h =
         let t = f64-rules (k + 8 * d) (omega arith) .near-scale (k + 8 * d) p q x y vp vq (omega arith) (step-good (k + 8 * d) d b x y (omega arith) (omega arith) (h .placed) (h .most) (h .least) (h .held)) in
         held-more (k + 8 * d + 8) (k + 8 * suc d) _ _ (omega arith) (t .0, t .1 .fine)
 
-    step-rises : (k d b : ℕ) (x : Point) (y : Complex) → k ≤ 100000 → d < 36 → 0 < b → b < G .count → Step c k d b x y
+    step-rises : (k d b : ℕ) (x : Point) (y : Complex) → k ≤ 100000 → d < wayBranches → 0 < b → b < G .count → Step c k d b x y
         → Step c k (suc d) (parentOf G b) (upward exact G b x) (upward doubles G b y)
     step-rises k d b x y m l z lb h =
         let v = sound .volts b z lb in
@@ -191,7 +192,7 @@ module _ (G : Grid) (U : ℕ → ℕ) (sound : Sound G) (levels : Levels G U) wh
           held = step-scale k d b _ _ x y l m (v .1) (v .0) h;
         }
 
-    step-falls : (k d b : ℕ) (x : Point) (y : Complex) → k ≤ 100000 → d < 36 → 0 < b → b < G .count → Step c k d (parentOf G b) x y
+    step-falls : (k d b : ℕ) (x : Point) (y : Complex) → k ≤ 100000 → d < wayBranches → 0 < b → b < G .count → Step c k d (parentOf G b) x y
         → Step c k (suc d) b (downward exact G b x) (downward doubles G b y)
     step-falls k d b x y m l z lb h =
         let v = sound .volts b z lb in
@@ -202,73 +203,73 @@ module _ (G : Grid) (U : ℕ → ℕ) (sound : Sound G) (levels : Levels G U) wh
           held = step-scale k d (parentOf G b) _ _ x y l m (v .0) (v .1) h;
         }
 
-  module _ (amperes : Amperes G U) (few : G .count ≤ 128) (current′ : ℕ → Complex) (kₑ : ℕ) (l : kₑ ≤ 20000)
+  module _ (amperes : Amperes G U) (few : G .count ≤ coveredBuses) (current′ : ℕ → Complex) (kₑ : ℕ) (l : kₑ ≤ mostUnits)
       (near-current : (i : ℕ) → i < G .count → Near parts kₑ (G .current i) (value (current′ i)) × Fine (current′ i)) where
-    all-small : (n : ℕ) → n ≤ G .count → sums (λ i. 2 ^ 57) n ≤ 2 ^ 64
-    all-small n m = rw (sums-most (2 ^ 57) n) (le-trans (mul-le-mul (le-refl (2 ^ 57)) (le-trans m few)) (lit≤ tt))
+    all-small : (n : ℕ) → n ≤ G .count → sums (λ i. currentMost) n ≤ 2 ^ 64
+    all-small n m = rw (sums-most currentMost n) (le-trans (mul-le-mul (le-refl currentMost) (le-trans m few)) (lit≤ tt))
 
-    one-small : 2 ^ 57 ≤ 2 ^ 64
+    one-small : currentMost ≤ 2 ^ 64
     one-small = lit≤ tt
 
-    step-own : (i : ℕ) → i < G .count → Step (2 ^ 57) kₑ 0 i (G .current i) (current′ i)
+    step-own : (i : ℕ) → i < G .count → Step currentMost kₑ 0 i (G .current i) (current′ i)
     step-own i li = record {
       placed = li;
-      most = most-own i (2 ^ 57) (G .current i) (amperes .proper i li) (amperes .most i li);
+      most = most-own i currentMost (G .current i) (amperes .proper i li) (amperes .most i li);
       least = low-more (2 ^ 20) _ (G .current i) (twice (2 ^ 20) (2 ^ 20 * 1) (U i) (levels .nominal i li .0) (lit≤ tt)) (amperes .least i li);
       held = held-more kₑ (kₑ + 8 * 0) _ _ (omega arith) (near-current i li);
     }
 
-    step-toRoot : (i : ℕ) → i < G .count → Step (2 ^ 57) kₑ 18 0 (toRoot exact G i (G .current i)) (toRoot doubles G i (current′ i))
+    step-toRoot : (i : ℕ) → i < G .count → Step currentMost kₑ maxBranches 0 (toRoot exact G i (G .current i)) (toRoot doubles G i (current′ i))
     step-toRoot i li =
         let s = sound .shallow i li in
-        step-more (2 ^ 57) kₑ (depth (parentOf G) i) 18 0 _ _ s
-        (toRoot-related exact doubles G (sound .tree) 18 (Step (2 ^ 57) kₑ)
-        (λ d b x y m z k h. step-rises (2 ^ 57) one-small kₑ d b x y (omega arith) (omega arith) z k h) (λ d b x y m z k h. step-falls (2 ^ 57) one-small kₑ d b x y (omega arith) (omega arith) z k h)
+        step-more currentMost kₑ (depth (parentOf G) i) maxBranches 0 _ _ s
+        (toRoot-related exact doubles G (sound .tree) maxBranches (Step currentMost kₑ)
+        (λ d b x y m z k h. step-rises currentMost one-small kₑ d b x y (omega arith) (omega arith) z k h) (λ d b x y m z k h. step-falls currentMost one-small kₑ d b x y (omega arith) (omega arith) z k h)
         i 0 (depth (parentOf G) i) _ _ li (omega arith) s (step-own i li))
 
-    step-gathered : (n : ℕ) → n ≤ G .count → 0 < G .count → Step (sums (λ i. 2 ^ 57) n) (kₑ + 4 * n) 18 0 (gathered exact (G .current) G n) (gathered doubles current′ G n)
+    step-gathered : (n : ℕ) → n ≤ G .count → 0 < G .count → Step (sums (λ i. currentMost) n) (kₑ + 4 * n) maxBranches 0 (gathered exact (G .current) G n) (gathered doubles current′ G n)
     step-gathered zero m z =
         let t = f64-rules 0 (omega arith) .near-none in
-        record { placed = z; most = most-nothing 18 0; least = inl refl; held = held-more 0 (kₑ + 4 * 0 + 8 * 18) nothing (doubles .none) (omega arith) (t .0, t .1 .fine) }
+        record { placed = z; most = most-nothing maxBranches 0; least = inl refl; held = held-more 0 (kₑ + 4 * 0 + 8 * maxBranches) nothing (doubles .none) (omega arith) (t .0, t .1 .fine) }
     step-gathered (suc n) m z =
         let h = step-gathered n (omega arith) z in
         let g = step-toRoot n m in
-        let k : ℕ = kₑ + 4 * n + 8 * 18 in
+        let k : ℕ = kₑ + 4 * n + 8 * maxBranches in
         let t =
         f64-rules k (omega arith) .near-add k _ _ _ _ (omega arith)
-        (step-good (sums (λ i. 2 ^ 57) n) (all-small n (omega arith)) k 18 0 _ _ (omega arith) (omega arith) z (h .most) (h .least) (h .held))
-        (step-good (2 ^ 57) one-small k 18 0 _ _ (omega arith) (omega arith) z (g .most) (g .least) (held-more (kₑ + 8 * 18) k _ _ (omega arith) (g .held))) in
+        (step-good (sums (λ i. currentMost) n) (all-small n (omega arith)) k maxBranches 0 _ _ (omega arith) (omega arith) z (h .most) (h .least) (h .held))
+        (step-good currentMost one-small k maxBranches 0 _ _ (omega arith) (omega arith) z (g .most) (g .least) (held-more (kₑ + 8 * maxBranches) k _ _ (omega arith) (g .held))) in
         record {
           placed = z;
-          most = most-sum 18 0 (sums (λ i. 2 ^ 57) n) (2 ^ 57) _ _ (h .most) (g .most);
+          most = most-sum maxBranches 0 (sums (λ i. currentMost) n) currentMost _ _ (h .most) (g .most);
           least = low-sum _ _ _ (h .least) (g .least);
-          held = held-more (k + 4) (kₑ + 4 * suc n + 8 * 18) _ _ (omega arith) (t .0, t .1 .fine);
+          held = held-more (k + 4) (kₑ + 4 * suc n + 8 * maxBranches) _ _ (omega arith) (t .0, t .1 .fine);
         }
 
-    step-carried : (b : ℕ) → b < G .count → Step (sums (λ i. 2 ^ 57) (G .count)) (kₑ + 4 * G .count) 36 b (carriedBy exact (G .current) G b) (carriedBy doubles current′ G b)
+    step-carried : (b : ℕ) → b < G .count → Step (sums (λ i. currentMost) (G .count)) (kₑ + 4 * G .count) wayBranches b (carriedBy exact (G .current) G b) (carriedBy doubles current′ G b)
     step-carried b lb =
         let s = sound .shallow b lb in
-        let c : ℕ = sums (λ i. 2 ^ 57) (G .count) in
+        let c : ℕ = sums (λ i. currentMost) (G .count) in
         let k : ℕ = kₑ + 4 * G .count in
         let w = all-small (G .count) (le-refl (G .count)) in
-        step-more c k (18 + depth (parentOf G) b) 36 b _ _ (omega arith)
-        (fromRoot-related exact doubles G (sound .tree) 36 (Step c k)
+        step-more c k (maxBranches + depth (parentOf G) b) wayBranches b _ _ (omega arith)
+        (fromRoot-related exact doubles G (sound .tree) wayBranches (Step c k)
         (λ d i x y m z q h. step-rises c w k d i x y (omega arith) m z q h) (λ d i x y m z q h. step-falls c w k d i x y (omega arith) m z q h)
-        b 18 (18 + depth (parentOf G) b) _ _ lb refl (omega arith) (step-gathered (G .count) (le-refl (G .count)) (omega arith)))
+        b maxBranches (maxBranches + depth (parentOf G) b) _ _ lb refl (omega arith) (step-gathered (G .count) (le-refl (G .count)) (omega arith)))
 
     -- THE CONVERTERS' PART IN F64 IS NEAR THE EXACT ONE: kₑ parts in 2 ^ 53 for a bus's current, 8 for each branch of two ways and 4 for each bus
     pub carried-near : (b : ℕ) → b < G .count
-        → Near parts (kₑ + (288 + 4 * G .count)) (carried G b) (value (carriedBy doubles current′ G b)) × Fine (carriedBy doubles current′ G b)
+        → Near parts (carriedUnits kₑ (G .count)) (carried G b) (value (carriedBy doubles current′ G b)) × Fine (carriedBy doubles current′ G b)
     carried-near b lb =
         let v : (i : ℕ) → 0 < i → i < G .count → (0 < G .branch i .above) × (0 < G .branch i .below) = λ i z m. (sound .volts i z m .0 .0, sound .volts i z m .1 .0) in
-        let h = held-more _ (kₑ + (288 + 4 * G .count)) _ _ (omega arith) (step-carried b lb .held) in
+        let h = held-more _ (carriedUnits kₑ (G .count)) _ _ (omega arith) (step-carried b lb .held) in
         let e = carried-root G (sound .tree) v (amperes .proper) b lb in
-        (near-same parts (kₑ + (288 + 4 * G .count)) _ (carried G b) _ (carried-proper G (sound .tree) v (amperes .proper) b lb) (record { re = sym (e .re); im = sym (e .im) }) (h .0), h .1)
+        (near-same parts (carriedUnits kₑ (G .count)) _ (carried G b) _ (carried-proper G (sound .tree) v (amperes .proper) b lb) (record { re = sym (e .re); im = sym (e .im) }) (h .0), h .1)
 
     -- and of a size that can be calculated with
     pub carried-range : (b : ℕ) → b < G .count → Sized (2 ^ 200) (size (carriedBy doubles current′ G b))
     carried-range b lb =
         let h = step-carried b lb in
         let w = all-small (G .count) (le-refl (G .count)) in
-        held-range (kₑ + 4 * G .count + 8 * 36) _ _ (omega arith) (h .held)
-        (step-low _ w 36 b _ (le-refl 36) lb (h .least)) (step-high _ w 36 b _ (le-refl 36) lb (h .most))
+        held-range (kₑ + 4 * G .count + 8 * wayBranches) _ _ (omega arith) (h .held)
+        (step-low _ w wayBranches b _ (le-refl wayBranches) lb (h .least)) (step-high _ w wayBranches b _ (le-refl wayBranches) lb (h .most))

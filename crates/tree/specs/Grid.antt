@@ -6,6 +6,7 @@ use mathlib.Core.Bool.{Bool, true, false, cond}
 use native.Mathlib.Omega.{arith}
 use lib.Dec.{ltb}
 use Rattle.enclosure.specs.Point.{Point, Ops, exact, sum}
+use Rattle.tree.specs.Limits.{maxBranches, walkSteps}
 use Rattle.tree.specs.Walk.{joined, near, over, Gather, walk, by-number, more-fuel, walk-equation, only-walk, walk-same, to-parent, to-child}
 use Rattle.tree.specs.Toward.{depth, by-depth}
 
@@ -101,16 +102,16 @@ unfolding seen
 sentence-seen G t S q b w l =
     only-walk (admittances exact (λ i. G .branch i .z) (G .own) G) (parentOf G) (G .count) (G .count) (λ i. i) (by-number (parentOf G) (G .count) t) S q (2 * G .count + 1) b w l (omega arith)
 
--- ---- 37 STEPS ARE ENOUGH where no bus is deeper than 18
-pub seen-37 : (G : Grid) → Treelike G → ((i : ℕ) → i < G .count → depth (parentOf G) i ≤ 18) → (b w : ℕ) → b < G .count
-    → seen G b w ≡ seenBy exact (λ i. G .branch i .z) (G .own) G 37 b w
+-- ---- `walkSteps` ARE ENOUGH where no bus is deeper than `maxBranches`
+pub seen-steps : (G : Grid) → Treelike G → ((i : ℕ) → i < G .count → depth (parentOf G) i ≤ maxBranches) → (b w : ℕ) → b < G .count
+    → seen G b w ≡ seenBy exact (λ i. G .branch i .z) (G .own) G walkSteps b w
 unfolding seen
-seen-37 G t d b w l =
+seen-steps G t d b w l =
     let W = admittances exact (λ i. G .branch i .z) (G .own) G in
     let p = parentOf G in
     let n = G .count in
-    more-fuel W p n n (λ i. i) (by-number p n t) (2 * n + 1) (2 * n + 37) b w l (omega arith) (omega arith)
-    ∙ more-fuel W p n 18 (depth p) (by-depth p n 18 t d) (2 * n + 37) 37 b w l (omega arith) (omega arith)
+    more-fuel W p n n (λ i. i) (by-number p n t) (2 * n + 1) (2 * n + walkSteps) b w l (omega arith) (omega arith)
+    ∙ more-fuel W p n maxBranches (depth p) (by-depth p n maxBranches t d) (2 * n + walkSteps) walkSteps b w l (omega arith) (omega arith)
 
 -- ---- what is seen depends on nothing but the tree, the rated volts, the impedances and the buses' own admittances
 pub record Shaped (G H : Grid) : Type 0 where

@@ -1,3 +1,4 @@
+pub mod Limits
 pub mod Walk
 pub mod Toward
 pub mod Grid

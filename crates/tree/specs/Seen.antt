@@ -16,8 +16,9 @@ use Rattle.enclosure.specs.Doubles.{doubles}
 use Rattle.enclosure.specs.Fair.{value, Fine}
 use Rattle.enclosure.specs.Range.{Good, Factor, f64-rules}
 use Rattle.enclosure.specs.declared.Complex.{Complex}
+use Rattle.tree.specs.Limits.{walkSteps, seenUnits, coveredBuses, mostUnits, ownMost}
 use Rattle.tree.specs.Walk.{joined, to-parent, to-child}
-use Rattle.tree.specs.Grid.{Grid, parentOf, square, through, through-cases, admittances, seenBy, seen, seen-37}
+use Rattle.tree.specs.Grid.{Grid, parentOf, square, through, through-cases, admittances, seenBy, seen, seen-steps}
 use Rattle.tree.specs.Bound.{AtMost, AtLeast, Low, most-more, most-under, most-sum, low-more, low-sum, low-inverse, inverse-low, referred, through-most}
 use Rattle.tree.specs.Fed.{through-proper}
 use Rattle.tree.specs.Inside.{walk-inside}
@@ -117,28 +118,28 @@ module _ (G : Grid) (U : ℕ → ℕ) (levels : Levels G U) (P S ζ : ℕ) (r : 
       record { proper = r .own-proper b lb; most = r .own-most b lb; least = low-more _ _ (G .own b) (mul-le-mul-right (U b * U b) (far-least ζ f)) (r .own-least b lb) }
 
   -- the exact walk alone
-  in-seen : Sound G → (b w : ℕ) → b < G .count → In 37 b (S + P * G .count) (seen G b w)
+  in-seen : Sound G → (b w : ℕ) → b < G .count → In walkSteps b (S + P * G .count) (seen G b w)
   in-seen sound b w lb =
       let W = admittances exact (λ j. G .branch j .z) (G .own) G in
-      rw (seen-37 G (sound .tree) (sound .shallow) b w lb)
-      (walk-inside W W (parentOf G) (G .count) In (λ k x y. Unit) 37 0 0 0 0 S P
+      rw (seen-steps G (sound .tree) (sound .shallow) b w lb)
+      (walk-inside W W (parentOf G) (G .count) In (λ k x y. Unit) walkSteps 0 0 0 0 S P
       in-more in-add (λ j k x y l h. tt) (λ f c k x x′ y y′ lf lc l h h′ g g′. tt)
       (λ f c lf lc. (in-own f c lc, tt)) (λ f c i k x y lf lc li e m q h g. (in-through f c i _ x lc li e h, tt))
-      37 b w (le-refl 37) lb (omega arith) .0)
+      walkSteps b w (le-refl walkSteps) lb (omega arith) .0)
 
-  module _ (wide : far ζ 37 * (2 ^ 19 * 2 ^ 19) ≤ 2 ^ 199) (tall : S + P * G .count ≤ 2 ^ 199) where
-    in-low : (f b j : ℕ) (x : Point) → f ≤ 37 → b < G .count → In f b j x → Low (2 ^ 199) x
+  module _ (wide : far ζ walkSteps * (2 ^ 19 * 2 ^ 19) ≤ 2 ^ 199) (tall : S + P * G .count ≤ 2 ^ 199) where
+    in-low : (f b j : ℕ) (x : Point) → f ≤ walkSteps → b < G .count → In f b j x → Low (2 ^ 199) x
     in-low f b j x lf lb h =
         let v = levels .nominal b lb .1 in
-        low-more _ (2 ^ 199) x (le-trans (mul-le-mul (far-mono ζ f 37 lf) (mul-le-mul v v)) wide) (h .least)
+        low-more _ (2 ^ 199) x (le-trans (mul-le-mul (far-mono ζ f walkSteps lf) (mul-le-mul v v)) wide) (h .least)
 
     in-high : (f b : ℕ) (x : Point) → In f b (S + P * G .count) x → x .re + x .im ≤ 2 ^ 199 * x .den
     in-high f b x h = most-under 1 (S + P * G .count) (2 ^ 199) x (omega arith) tall (h .most)
 
-    in-good : (f b k : ℕ) (x : Point) (y : Complex) → f ≤ 37 → b < G .count → k ≤ 1000000 → In f b (S + P * G .count) x → Held k x y → NearTo value (Good 200 k) parts k x y
+    in-good : (f b k : ℕ) (x : Point) (y : Complex) → f ≤ walkSteps → b < G .count → k ≤ 1000000 → In f b (S + P * G .count) x → Held k x y → NearTo value (Good 200 k) parts k x y
     in-good f b k x y lf lb l h g = held-good k x y (omega arith) g (in-low f b _ x lf lb h) (in-high f b x h)
 
-    near-add : (f b k : ℕ) (x x′ : Point) (y y′ : Complex) → f ≤ 37 → b < G .count → k ≤ 1000000 → In f b (S + P * G .count) x → In f b (S + P * G .count) x′
+    near-add : (f b k : ℕ) (x x′ : Point) (y y′ : Complex) → f ≤ walkSteps → b < G .count → k ≤ 1000000 → In f b (S + P * G .count) x → In f b (S + P * G .count) x′
         → Held k x y → Held k x′ y′ → Held (k + 4) (sum x x′) (doubles .add y y′)
     near-add f b k x x′ y y′ lf lb l h h′ g g′ =
         let t = f64-rules k l .near-add k x x′ y y′ (omega arith) (in-good f b k x y lf lb l h g) (in-good f b k x′ y′ lf lb l h′ g′) in
@@ -152,12 +153,12 @@ module _ (G : Grid) (U : ℕ → ℕ) (levels : Levels G U) (P S ζ : ℕ) (r : 
           let v = levels .nominal i li .1 in
           held-good k _ _ (omega arith) (held-more kₑ k _ _ m (near-z i p li))
           (inr (longest P (2 ^ 199) _ _ (one-of P S (G .count) (2 ^ 199) (omega arith) tall) (r .long i p li)))
-          (most-under 1 (ζ * (U i * U i)) (2 ^ 199) _ (omega arith) (le-trans (mul-le-mul (far-least ζ 37) (mul-le-mul v v)) wide) (r .short i p li))
+          (most-under 1 (ζ * (U i * U i)) (2 ^ 199) _ (omega arith) (le-trans (mul-le-mul (far-least ζ walkSteps) (mul-le-mul v v)) wide) (r .short i p li))
 
-      seen-held : (b w : ℕ) → b < G .count → kₑ + (46 + 4 * G .count) * 37 ≤ 1000000 → Held (kₑ + (46 + 4 * G .count) * 37) (seen G b w) (seenBy doubles z′ own′ G 37 b w)
+      seen-held : (b w : ℕ) → b < G .count → seenUnits kₑ (G .count) ≤ 1000000 → Held (seenUnits kₑ (G .count)) (seen G b w) (seenBy doubles z′ own′ G walkSteps b w)
       seen-held b w lb l =
-          rw (seen-37 G (sound .tree) (sound .shallow) b w lb)
-          (walk-inside (admittances exact (λ j. G .branch j .z) (G .own) G) (admittances doubles z′ own′ G) (parentOf G) (G .count) In Held 37 1000000 kₑ 4 46 S P
+          rw (seen-steps G (sound .tree) (sound .shallow) b w lb)
+          (walk-inside (admittances exact (λ j. G .branch j .z) (G .own) G) (admittances doubles z′ own′ G) (parentOf G) (G .count) In Held walkSteps 1000000 kₑ 4 46 S P
           in-more in-add held-more near-add
           (λ f c lf lc. (in-own f c lc, near-own c lc))
           (λ f c i k x y lf lc li e m q h g. (
@@ -168,7 +169,7 @@ module _ (G : Grid) (U : ℕ → ℕ) (levels : Levels G U) (P S ζ : ℕ) (r : 
                 k c i x y lc li e (le-refl k) (omega arith) (in-good f i k x y (omega arith) li (omega arith) h g) in
                 (t .0, t .1 .fine)),
           ))
-          37 b w (le-refl 37) lb l .1)
+          walkSteps b w (le-refl walkSteps) lb l .1)
 
 -- ---- elements within the bounds of Plain are in range
 least-own : (a b d : ℕ) → 0 < a + b → d ≤ 2 ^ 100 → 2 * (1 * d) ≤ 2 ^ 180 * (a + b)
@@ -185,13 +186,13 @@ short-own s d u z h = from (s ∷ d ∷ u ∷ []) (h ⊹ 2 ^ 60 * d ⋆ mul-pos 
 wide-own : (u : ℕ) → 0 < u → 2 ^ 60 ≤ 2 ^ 60 * (u * u)
 wide-own u z = from (u ∷ []) (2 ^ 60 ⋆ mul-pos z z) (search read depth 40 fits 20000) refl
 
-high-own : (s d : ℕ) → s ≤ 2 ^ 108 * d → s * 1 ≤ 2 ^ 108 * d
+high-own : (s d : ℕ) → s ≤ ownMost * d → s * 1 ≤ ownMost * d
 high-own s d h = from (s ∷ d ∷ []) h (search read depth 40 fits 20000) refl
 
-tall-128 : (n : ℕ) → n ≤ 128 → 2 ^ 108 + 2 ^ 180 * n ≤ 2 ^ 199
-tall-128 n h = from (n ∷ []) (2 ^ 180 ⋆ h) (search read depth 40 fits 20000) refl
+tall : (n : ℕ) → n ≤ coveredBuses → ownMost + 2 ^ 180 * n ≤ 2 ^ 199
+tall n h = from (n ∷ []) (2 ^ 180 ⋆ h) (search read depth 40 fits 20000) refl
 
-module _ (G : Grid) (U : ℕ → ℕ) (sound : Sound G) (levels : Levels G U) (plain : Plain G) (few : G .count ≤ 128) where
+module _ (G : Grid) (U : ℕ → ℕ) (sound : Sound G) (levels : Levels G U) (plain : Plain G) (few : G .count ≤ coveredBuses) where
   apart : (b i : ℕ) → b < G .count → i < G .count → joined (parentOf G) b i ≡ true → AtLeast 1 (2 ^ 180) (referred G b i)
   apart b i lb li e = go (ltb i b) refl
     where
@@ -205,7 +206,7 @@ module _ (G : Grid) (U : ℕ → ℕ) (sound : Sound G) (levels : Levels G U) (p
           let v = sound .volts i z li in
           least-referred (G .branch i .z .re) (G .branch i .z .im) (G .branch i .z .den) (G .branch i .above) (G .branch i .below) (h .some) (h .fine) (v .0 .0) (v .1 .1)
 
-  ranged : Ranged G U (2 ^ 180) (2 ^ 108) (2 ^ 60)
+  ranged : Ranged G U (2 ^ 180) ownMost (2 ^ 60)
   ranged = record {
     long = λ i z l. let h = plain .branch i z l in least-own (G .branch i .z .re) (G .branch i .z .im) (G .branch i .z .den) (h .some) (h .fine);
     apart = apart;
@@ -215,24 +216,24 @@ module _ (G : Grid) (U : ℕ → ℕ) (sound : Sound G) (levels : Levels G U) (p
     own-least = λ b l. low-more _ _ (G .own b) (wide-own (U b) (levels .nominal b l .0)) (plain .own b l .least);
   }
 
-  wide : far (2 ^ 60) 37 * (2 ^ 19 * 2 ^ 19) ≤ 2 ^ 199
+  wide : far (2 ^ 60) walkSteps * (2 ^ 19 * 2 ^ 19) ≤ 2 ^ 199
   wide = lit≤ tt
 
   -- WHAT IS SEEN IS IN RANGE: nothing, or from 2 ^ -199 to 2 ^ 199
   pub seen-low : (b w : ℕ) → b < G .count → Low (2 ^ 199) (seen G b w)
-  seen-low b w lb = in-low G U levels (2 ^ 180) (2 ^ 108) (2 ^ 60) ranged wide (tall-128 (G .count) few) 37 b _ (seen G b w) (le-refl 37) lb (in-seen G U levels (2 ^ 180) (2 ^ 108) (2 ^ 60) ranged sound b w lb)
+  seen-low b w lb = in-low G U levels (2 ^ 180) ownMost (2 ^ 60) ranged wide (tall (G .count) few) walkSteps b _ (seen G b w) (le-refl walkSteps) lb (in-seen G U levels (2 ^ 180) ownMost (2 ^ 60) ranged sound b w lb)
 
   pub seen-high : (b w : ℕ) → b < G .count → seen G b w .re + seen G b w .im ≤ 2 ^ 199 * seen G b w .den
-  seen-high b w lb = in-high G U levels (2 ^ 180) (2 ^ 108) (2 ^ 60) ranged wide (tall-128 (G .count) few) 37 b (seen G b w) (in-seen G U levels (2 ^ 180) (2 ^ 108) (2 ^ 60) ranged sound b w lb)
+  seen-high b w lb = in-high G U levels (2 ^ 180) ownMost (2 ^ 60) ranged wide (tall (G .count) few) walkSteps b (seen G b w) (in-seen G U levels (2 ^ 180) ownMost (2 ^ 60) ranged sound b w lb)
 
-  room : (k n : ℕ) → k ≤ 20000 → n ≤ 128 → k + (46 + 4 * n) * 37 ≤ 1000000
+  room : (k n : ℕ) → k ≤ mostUnits → n ≤ coveredBuses → seenUnits k n ≤ 1000000
   room k n a b = omega arith
 
-  module _ (z′ own′ : ℕ → Complex) (kₑ : ℕ) (l : kₑ ≤ 20000)
+  module _ (z′ own′ : ℕ → Complex) (kₑ : ℕ) (l : kₑ ≤ mostUnits)
       (near-z : (i : ℕ) → 0 < i → i < G .count → Near parts kₑ (G .branch i .z) (value (z′ i)) × Fine (z′ i))
       (near-own : (b : ℕ) → b < G .count → Near parts kₑ (G .own b) (value (own′ b)) × Fine (own′ b)) where
-    -- THE WALK IN F64 IS NEAR THE EXACT ONE: kₑ parts in 2 ^ 53 for an element, 46 for a branch and 4 for each bus, over 37 steps
+    -- THE WALK IN F64 IS NEAR THE EXACT ONE: kₑ parts in 2 ^ 53 for an element, 46 for a branch and 4 for each bus at each step
     pub seen-near : (b w : ℕ) → b < G .count
-        → Near parts (kₑ + (46 + 4 * G .count) * 37) (seen G b w) (value (seenBy doubles z′ own′ G 37 b w)) × Fine (seenBy doubles z′ own′ G 37 b w)
+        → Near parts (seenUnits kₑ (G .count)) (seen G b w) (value (seenBy doubles z′ own′ G walkSteps b w)) × Fine (seenBy doubles z′ own′ G walkSteps b w)
     seen-near b w lb =
-        seen-held G U levels (2 ^ 180) (2 ^ 108) (2 ^ 60) ranged wide (tall-128 (G .count) few) sound z′ own′ kₑ near-z near-own b w lb (room kₑ (G .count) l few)
+        seen-held G U levels (2 ^ 180) ownMost (2 ^ 60) ranged wide (tall (G .count) few) sound z′ own′ kₑ near-z near-own b w lb (room kₑ (G .count) l few)

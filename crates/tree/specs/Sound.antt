@@ -8,6 +8,7 @@ use native.Mathlib.Omega.{arith}
 use Rattle.algebra.specs.Reading.{from-over, read, _⊹_, _⋆_}
 use Rattle.enclosure.specs.Point.{Point}
 use Rattle.enclosure.specs.Range.{Factor}
+use Rattle.tree.specs.Limits.{maxBranches, ownMost, currentMost}
 use Rattle.tree.specs.Toward.{depth}
 use Rattle.tree.specs.Grid.{Grid, parentOf, Treelike}
 use Rattle.tree.specs.Bound.{Low}
@@ -16,7 +17,7 @@ use Rattle.tree.specs.Fed.{Proper}
 -- "Any other bus names a parent with a smaller number"; "At most 18 branches .. lead from bus 0 to any bus"; rated volts are numbers of 32 bits
 pub record Sound (G : Grid) : Type 0 where
   pub tree : Treelike G
-  pub shallow : (i : ℕ) → i < G .count → depth (parentOf G) i ≤ 18
+  pub shallow : (i : ℕ) → i < G .count → depth (parentOf G) i ≤ maxBranches
   pub volts : (i : ℕ) → 0 < i → i < G .count → Factor (G .branch i .above) × Factor (G .branch i .below)
 
 -- U gives the nominal volts. "A line joins equal nominal voltages. A rated voltage lies from 9/10 to 11/10 of its bus's Un": a rated
@@ -37,21 +38,21 @@ pub record Impedance (x : Point) : Type 0 where
   pub fine : x .den ≤ 2 ^ 100
   pub short : x .re + x .im ≤ 2 ^ 60 * x .den
 
--- nothing, or from 2 ^ -60 to 2 ^ 108
+-- nothing, or from 2 ^ -60 to 2 ^ 109: `ownMost`
 pub record Admittance (x : Point) : Type 0 where
   pub proper : 0 < x .den
   pub least : Low (2 ^ 60) x
-  pub most : x .re + x .im ≤ 2 ^ 108 * x .den
+  pub most : x .re + x .im ≤ ownMost * x .den
 
 pub record Plain (G : Grid) : Type 0 where
   pub branch : (i : ℕ) → 0 < i → i < G .count → Impedance (G .branch i .z)
   pub own : (b : ℕ) → b < G .count → Admittance (G .own b)
 
--- each bus's current, if it has one, is at least 2 ^ -20 A, and its product with the nominal volts at most 2 ^ 57
+-- each bus's current, if it has one, is at least 2 ^ -20 A, and its product with the nominal volts at most 2 ^ 43: `currentMost`
 pub record Amperes (G : Grid) (U : ℕ → ℕ) : Type 0 where
   pub proper : (i : ℕ) → i < G .count → 0 < G .current i .den
   pub least : (i : ℕ) → i < G .count → Low (2 ^ 20) (G .current i)
-  pub most : (i : ℕ) → i < G .count → (G .current i .re + G .current i .im) * U i ≤ 2 ^ 57 * G .current i .den
+  pub most : (i : ℕ) → i < G .count → (G .current i .re + G .current i .im) * U i ≤ currentMost * G .current i .den
 
 pub sound-proper : (G : Grid) → Sound G → Plain G → Proper G
 sound-proper G s p = record {

@@ -8,6 +8,7 @@ use native.Mathlib.Omega.{arith}
 use lib.Dec.{ltb, eqb}
 use borrow.Author.Tests.{lt-ltb, le-ltb, eq-eqb, eqb-true, eqb-false, ne-eqb}
 use Rattle.enclosure.specs.Point.{Ops}
+use Rattle.tree.specs.Limits.{maxBranches, walkSteps}
 use Rattle.tree.specs.Walk.{joined, near, over, over-same, over-none, over-one, joined-cases, near-joined, near-parent, walk, only-walk}
 use Rattle.tree.specs.Toward.{depth, by-depth}
 use Rattle.tree.specs.Grid.{Grid, parentOf, Treelike, through, admittances, seenBy}
@@ -90,10 +91,10 @@ module _ {A : Type 0} (o : Ops A) (z own : ℕ → A) (G : Grid) (rise fall : �
         down : (i : ℕ) → i < G .count → (b < i) × (parentOf G i ≡ b) → side b i ≡ through o z G b i (gathers i b)
         down i m u = rw (le-ltb i b (omega arith), ← u .1) (s .rises i (omega arith) m)
 
-    -- THE SWEEPS ARE THE WALK, where no bus is deeper than 18: the same numbers, rounded or exact
-    pub swept-walk : ((i : ℕ) → i < G .count → depth (parentOf G) i ≤ 18) → (b w : ℕ) → b < G .count → gathers b w ≡ seenBy o z own G 37 b w
+    -- THE SWEEPS ARE THE WALK, where no bus is deeper than `maxBranches`: the same numbers, rounded or exact
+    pub swept-walk : ((i : ℕ) → i < G .count → depth (parentOf G) i ≤ maxBranches) → (b w : ℕ) → b < G .count → gathers b w ≡ seenBy o z own G walkSteps b w
     swept-walk d b w l =
-        only-walk (admittances o z own G) (parentOf G) (G .count) 18 (depth (parentOf G)) (by-depth (parentOf G) (G .count) 18 tree d) gathers sentence 37 b w l (omega arith)
+        only-walk (admittances o z own G) (parentOf G) (G .count) maxBranches (depth (parentOf G)) (by-depth (parentOf G) (G .count) maxBranches tree d) gathers sentence walkSteps b w l (omega arith)
 
   -- ---- for code: what each sweep adds up, in its order
   abbrev child : ℕ → ℕ → Bool

@@ -5,7 +5,7 @@ use mathlib.Core.List.{[], _∷_, _++_}
 use native.Mathlib.Omega.{arith}
 use lib.ListN.{length, take, set}
 use Rattle.network.specs.Network.{network, maxBuses, blank}
-use Rattle.network.specs.Grounds.{busNumber}
+use Rattle.network.specs.Grounds.{busNumberIn}
 use Rattle.network.specs.Acceptance.{bus-record-same, bus-number-open}
 use Rattle.network.proofs.Lists.{length-mapped, count-below, count-full, appended-same}
 use borrow.Author.Needs.{needs}
@@ -13,11 +13,11 @@ use Rattle.network.proofs.bus_number.Statement.{statement}
 use Rattle.network.proofs.bus_number.Tie as tie
 
 returns : tie.Need-returns
-unfolding busNumber
+unfolding busNumberIn
 returns c = rw (c .if1 .taken)
 
 returns-2 : tie.Need-returns-2
-unfolding busNumber
+unfolding busNumberIn
 returns-2 c =
     let s = c .before .before .args .s in
     let h : length (s .buses) ≡ maxBuses = search (needs, length-mapped) in

@@ -3,7 +3,7 @@ use mathlib.Core.Path.{_≡_, sym, _∙_}
 use native.Mathlib.Omega.{arith}
 use lib.ListN.{length}
 use Rattle.network.specs.Network.{network, maxSources}
-use Rattle.network.specs.Grounds.{sourceNumber}
+use Rattle.network.specs.Grounds.{sourceNumberIn}
 use Rattle.network.specs.Acceptance.{source-number-open}
 use Rattle.network.proofs.Lists.{length-mapped, count-below, count-full}
 use borrow.Author.Needs.{needs}
@@ -11,11 +11,11 @@ use Rattle.network.proofs.source_number.Statement.{statement}
 use Rattle.network.proofs.source_number.Tie as tie
 
 returns : tie.Need-returns
-unfolding sourceNumber
+unfolding sourceNumberIn
 returns c = rw (c .if1 .taken)
 
 returns-2 : tie.Need-returns-2
-unfolding sourceNumber
+unfolding sourceNumberIn
 returns-2 c =
     let s = c .before .before .args .s in
     let h : length (s .sources) ≡ maxSources = search (needs, length-mapped) in

@@ -4,7 +4,7 @@ use lib.ListN.{length}
 use Rattle.network.specs.Network.{network}
 use Rattle.network.specs.Booleans.{within-true}
 use Rattle.reader.specs.declared.Reading.{Reading}
-use Rattle.reader.specs.File.{maxBytes, Outcome, outcomeOf, readOf}
+use Rattle.reader.specs.File.{maxBytes, Outcome, outcomeOf, readIn}
 use Rattle.reader.proofs.read.Statement.{statement}
 use Rattle.reader.proofs.read.Tie as tie
 
@@ -15,14 +15,14 @@ read-rows-requires : tie.Need-read-rows-requires
 read-rows-requires c κs = within-true (length (c .before .before .args .text .now)) 1 maxBytes (c .if1 .taken) .1
 
 returns : tie.Need-returns
-unfolding readOf
+unfolding readIn
 returns c = parts (c .read-rows .result) _ (c .read-rows .ensures ∙ rw (c .before .if1 .taken) refl)
 
 refused-requires : tie.Need-refused-requires
 refused-requires c κs = search needs
 
 returns-2 : tie.Need-returns-2
-unfolding readOf
+unfolding readIn
 returns-2 c = parts (c .refused .result) _ (c .refused .ensures ∙ rw (c .before .if1 .left) refl)
 
 pub read-spec : {M : Type 1} → statement M

@@ -1,4 +1,5 @@
--- THE TWO SWEEPS GIVE WHAT A WALK FROM EACH BUS GIVES, in the very same doubles, for a tree of at most 64 buses, none deeper than 18.
+-- THE TWO SWEEPS GIVE WHAT A WALK FROM EACH BUS GIVES, in the very same doubles, for a tree of at most
+-- `maxBuses` buses, none deeper than `maxBranches`.
 -- Assumes nothing.
 use Prim.Native.Nat.{ℕ, zero, suc, _+_, _-_, _≤_, _<_}
 use mathlib.Core.Path.{_≡_, refl, sym, _∙_, ap, ap₂}
@@ -8,6 +9,7 @@ use lib.Dec.{ltb, eqb}
 use borrow.Author.Tests.{lt-ltb, le-ltb, eqb-true, eqb-false}
 use Rattle.enclosure.specs.declared.Complex.{Complex}
 use Rattle.enclosure.specs.Doubles.{added, doubles}
+use Rattle.tree.specs.Limits.{maxBranches, walkSteps}
 use Rattle.tree.specs.Toward.{depth}
 use Rattle.tree.specs.Grid.{Grid, parentOf, Treelike, through, seenBy}
 use Rattle.tree.specs.Sweeps.{overFrom, over-from, from-same, gathersPast, gathersBeside, Swept, swept-walk, gathers-up, gathers-all, gathers-down}
@@ -278,16 +280,16 @@ module _ (z : ℕ → Complex) (G : Grid) (own : Points) where
           ∙ ap (through doubles z G b (parentOf G b)) (down-gathered b y l ∙ sym (gathers-down doubles z (pointOf own) G rises falls tree b y l));
     }
 
-    module _ (shallow : (i : ℕ) → i < G .count → depth (parentOf G) i ≤ 18) where
+    module _ (shallow : (i : ℕ) → i < G .count → depth (parentOf G) i ≤ maxBranches) where
       -- without its parent: one side of its branch
-      pub up-walk : (b : ℕ) → 0 < b → b < G .count → ups b ≡ seenBy doubles z (pointOf own) G 37 b (parentOf G b)
+      pub up-walk : (b : ℕ) → 0 < b → b < G .count → ups b ≡ seenBy doubles z (pointOf own) G walkSteps b (parentOf G b)
       up-walk b y l =
           all-done .done b (omega arith) l
           ∙ sym (gathers-up doubles z (pointOf own) G rises falls tree b y l)
           ∙ swept-walk doubles z (pointOf own) G rises falls tree swept shallow b (parentOf G b) l
 
       -- without a child: the other side of the branch
-      pub down-walk : (c : ℕ) → 0 < c → c < G .count → downs c ≡ seenBy doubles z (pointOf own) G 37 (parentOf G c) c
+      pub down-walk : (c : ℕ) → 0 < c → c < G .count → downs c ≡ seenBy doubles z (pointOf own) G walkSteps (parentOf G c) c
       unfolding fallsOf
       down-walk c y l =
           let t = tree c y l in
@@ -297,7 +299,7 @@ module _ (z : ℕ → Complex) (G : Grid) (own : Points) where
           ∙ swept-walk doubles z (pointOf own) G rises falls tree swept shallow (parentOf G c) c (omega arith)
 
       -- without none: WHAT IS SEEN AT EACH BUS
-      pub all-walk : (b : ℕ) → b < G .count → seenOf (risesOf z G own .up) (fallsOf z G rises befores .fall) b ≡ seenBy doubles z (pointOf own) G 37 b b
+      pub all-walk : (b : ℕ) → b < G .count → seenOf (risesOf z G own .up) (fallsOf z G rises befores .fall) b ≡ seenBy doubles z (pointOf own) G walkSteps b b
       unfolding seenOf withParent
       all-walk b l =
           ap (λ (a : Complex). cond (ltb 0 b) (added a (falls b)) a) (all-done .done b (omega arith) l)

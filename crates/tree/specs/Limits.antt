@@ -1,0 +1,74 @@
+-- THE LIMITS of document 01, and every number of the definitions and laws that moves with them. The code has them as `BUSES` (sweep),
+-- `SOURCES`, `BRANCHES` and `TRANSFORMERS` (network).
+use Prim.Native.Nat.{ℕ, _+_, _*_, _^_}
+
+-- "At most 64 buses, 256 sources."
+abbrev pub maxBuses : ℕ
+maxBuses = 64
+
+abbrev pub maxSources : ℕ
+maxSources = 256
+
+-- the two limits of an edition of the program, since editions with others meet in one file; and those of this one
+pub record Limits : Type 0 where
+  pub buses : ℕ
+  pub sources : ℕ
+
+abbrev pub here : Limits
+here = record { buses = maxBuses; sources = maxSources }
+
+-- "At most 18 branches, 4 of them transformers, lead from bus 0 to any bus."
+abbrev pub maxBranches : ℕ
+maxBranches = 18
+
+abbrev pub maxTransformers : ℕ
+maxTransformers = 4
+
+-- ---- ways: as many branches lead from one bus to another at the most, to bus 0 and from it
+abbrev pub wayBranches : ℕ
+wayBranches = 2 * maxBranches
+
+-- and a walk over such a way takes a step more
+abbrev pub walkSteps : ℕ
+walkSteps = wayBranches + 1
+
+-- (11/9) ^ wayBranches, rounded up: by so much can the rated ratios of a way differ from the nominal ones
+abbrev pub wayRatio : ℕ
+wayRatio = 1400
+
+-- ---- the laws of errors and of sizes are proved for so many buses and sources: up to these the limits may rise, and no proof changes
+abbrev pub coveredBuses : ℕ
+coveredBuses = 128
+
+abbrev pub coveredSources : ℕ
+coveredSources = 512
+
+-- ---- errors, in parts in 2 ^ 53. What stands at a bus: a machine's admittance has 45, a converter's current 8, and each sum adds 4
+abbrev pub ownUnits : ℕ
+ownUnits = 45 + 4 * coveredSources
+
+abbrev pub currentUnits : ℕ
+currentUnits = 8 + 4 * coveredSources
+
+-- what is seen in a tree of n buses, from elements of k: each step of the walk adds 46 for a branch and 4 for each bus
+abbrev pub seenUnits : ℕ → ℕ → ℕ
+seenUnits k n = k + (46 + 4 * n) * walkSteps
+
+-- what is carried in a tree of n buses, from currents of k: 8 for each branch of a way and 4 for each bus
+abbrev pub carriedUnits : ℕ → ℕ → ℕ
+carriedUnits k n = k + (8 * wayBranches + 4 * n)
+
+-- no error is larger
+abbrev pub mostUnits : ℕ
+mostUnits = 30000
+
+-- ---- sizes. What stands at a bus: 2 ^ 100 S for each machine; 2 ^ 34 V·A, current times nominal volts, for each converter
+abbrev pub ownMost : ℕ
+ownMost = 2 ^ 100 * coveredSources
+
+abbrev pub currentMost : ℕ
+currentMost = 2 ^ 34 * coveredSources
+
+-- what is seen at a bus times its nominal volts, in V·S: √3·I is then at most 2 ^ 50 A
+abbrev pub seenMost : ℕ
+seenMost = 10 ^ 15
