@@ -1,5 +1,5 @@
 -- The grounds on which a call is refused, in the order in which document 01 has them tried, and the network after each call.
-use mathlib.Core.Bool.{Bool, true, false, not, cond, _&&_, _||_}
+use mathlib.Core.Bool.{Bool, true, not, cond, _&&_, _||_}
 use mathlib.Core.List.{List, [], _∷_, _++_}
 use Prim.Native.Nat.{ℕ}
 use lib.Dec.{leb, ltb, eqb}
@@ -7,7 +7,7 @@ use lib.ListN.{length}
 use Rattle.network.specs.declared.Bus.{Bus}
 use Rattle.network.specs.declared.Source.{Source}
 use Rattle.network.specs.Records.{within, toleranceOk, voltsOk, ratingOk, branchOk, ratedOk, fieldsOk}
-use Rattle.network.specs.Network.{Network, maxBuses, maxSources, maxBranches, maxTransformers, busAt, parentOf, depthOf, transformersOf}
+use Rattle.network.specs.Network.{Network, maxBuses, maxSources, maxBranches, maxTransformers, openOf, withBus, withSource, closedAs, busAt, parentOf, depthOf, transformersOf}
 
 -- a ground: the test that a call has to pass, and the number that it is refused with
 pub record Ground : Type 0 where
@@ -32,7 +32,7 @@ abbrev pub startNumber : ℕ → ℕ
 startNumber t = first (on (toleranceOk t) 1 ∷ [])
 
 abbrev pub emptyOf : ℕ → Network
-emptyOf t = record { tolerance = t; closed = false; buses = []; sources = [] }
+emptyOf t = openOf t [] []
 
 abbrev pub startNetwork : ℕ → Network
 startNetwork t = emptyOf (cond (toleranceOk t) t 6)
@@ -87,10 +87,7 @@ busNumber n b = first (addBusGrounds n b)
 
 -- "a refused call adds nothing to it"
 unfoldable pub afterBus : Network → Bus → Network
-afterBus n b =
-    cond (eqb (busNumber n b) 0)
-    (record { tolerance = n .tolerance; closed = n .closed; buses = n .buses ++ (b ∷ []); sources = n .sources })
-    n
+afterBus n b = cond (eqb (busNumber n b) 0) (withBus n b) n
 
 -- ---- adding a source
 -- "13 machine rated voltage.", of a generator or a motor
@@ -124,10 +121,7 @@ unfoldable pub sourceNumber : Network → Source → ℕ
 sourceNumber n p = first (addSourceGrounds n p)
 
 unfoldable pub afterSource : Network → Source → Network
-afterSource n p =
-    cond (eqb (sourceNumber n p) 0)
-    (record { tolerance = n .tolerance; closed = n .closed; buses = n .buses; sources = n .sources ++ (p ∷ []) })
-    n
+afterSource n p = cond (eqb (sourceNumber n p) 0) (withSource n p) n
 
 -- ---- closing
 -- "21 study closed already (adding or closing)."; "25 closing without a source"
@@ -138,7 +132,4 @@ unfoldable pub closeNumber : Network → ℕ
 closeNumber n = first (closeGrounds n)
 
 unfoldable pub afterClose : Network → Network
-afterClose n =
-    cond (eqb (closeNumber n) 0)
-    (record { tolerance = n .tolerance; closed = true; buses = n .buses; sources = n .sources })
-    n
+afterClose n = cond (eqb (closeNumber n) 0) (closedAs true n) n
