@@ -1,4 +1,3 @@
-mod Chain
 mod Filling
 mod Lists
 mod Sizes

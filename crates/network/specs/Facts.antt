@@ -13,7 +13,7 @@ use Rattle.network.specs.Records.{within, all, lineTests, transformerTes
 use Rattle.network.specs.Network.{Network, maxBuses, maxSources, maxBranches, maxTransformers, busAt, parentOf, sourceAt, depthOf, transformersOf}
 use Rattle.network.specs.Grounds.{depthOk, busGrounds, busRecordNumber, sourceGrounds, sourceRecordNumber}
 use Rattle.network.specs.Booleans.{by-test, both-true, where-true, within-true, at-zero, past-zero, all-true, not-both-zero}
-use Rattle.network.specs.Acceptance.{Passed, passed}
+use Rattle.network.specs.Acceptance.{testOf, ground}
 use Rattle.network.specs.Rebuilt.{Rebuilt}
 
 -- ---- ranges of records, as facts
@@ -131,22 +131,22 @@ module _ {n : Network} (r : Rebuilt n) where
 
 -- ---- the record of bus i
 module _ {n : Network} (r : Rebuilt n) (i : ℕ) (h : i < length (n .buses)) where
-  -- its tests, in the order of the grounds
-  bus-tests : Passed (busGrounds (n .buses) i)
+  -- the test of each ground, by its number
+  pub bus-test : (k : ℕ) → testOf (busGrounds (n .buses) i) k ≡ true
   unfolding busRecordNumber
-  bus-tests = passed (busGrounds (n .buses) i) refl (r .bus-records i h)
+  bus-test k = ground (busGrounds (n .buses) i) k refl (r .bus-records i h)
 
   pub bus-volts : (100 ≤ busAt (n .buses) i .volts) × (busAt (n .buses) i .volts ≤ 420000)
-  bus-volts = within-true (busAt (n .buses) i .volts) 100 420000 (bus-tests .0)
+  bus-volts = within-true (busAt (n .buses) i .volts) 100 420000 (bus-test 2)
 
   -- "Any other bus names a parent with a smaller number."
   pub bus-parent : 0 < i → busAt (n .buses) i .parent < i
-  bus-parent z = ltb-true _ i (past-zero i (eqb (busAt (n .buses) i .parent) 0) _ (bus-tests .1 .0) z)
+  bus-parent z = ltb-true _ i (past-zero i (eqb (busAt (n .buses) i .parent) 0) _ (bus-test 3) z)
 
   pub bus-kind : 0 < i → (busAt (n .buses) i .kind ≡ 1) ⊎ (busAt (n .buses) i .kind ≡ 2)
   bus-kind z =
       let k = busAt (n .buses) i .kind in
-      let w = within-true k 1 2 (past-zero i (eqb k 0) (within k 1 2) (bus-tests .1 .1 .0) z) in
+      let w = within-true k 1 2 (past-zero i (eqb k 0) (within k 1 2) (bus-test 4) z) in
       by-test (eqb k 1)
       (λ e. inl (eqb-true k 1 e))
       (λ e. inr (omega (arith, eqb-false k 1 e)))
@@ -154,80 +154,80 @@ module _ {n : Network} (r : Rebuilt n) (i : ℕ) (h : i < length (n .buses)) whe
   -- the branch fields, by the kind
   pub line-ranges : busAt (n .buses) i .kind ≡ 1 → LineRanges (busAt (n .buses) i)
   unfolding branchOk
-  line-ranges k = line-fields (busAt (n .buses) i) (rw k at (bus-tests .1 .1 .1 .0))
+  line-ranges k = line-fields (busAt (n .buses) i) (rw k at (bus-test 5))
 
   pub transformer-ranges : busAt (n .buses) i .kind ≡ 2 → TransformerRanges (busAt (n .buses) i)
   unfolding branchOk
-  transformer-ranges k = transformer-fields (busAt (n .buses) i) (rw k at (bus-tests .1 .1 .1 .0))
+  transformer-ranges k = transformer-fields (busAt (n .buses) i) (rw k at (bus-test 5))
 
   -- "A line joins equal nominal voltages."
   pub line-volts : busAt (n .buses) i .kind ≡ 1 → parentOf (n .buses) i .volts ≡ busAt (n .buses) i .volts
-  line-volts k = eqb-true _ _ (rw k at (bus-tests .1 .1 .1 .1 .0))
+  line-volts k = eqb-true _ _ (rw k at (bus-test 6))
 
   -- "A rated voltage lies from 9/10 to 11/10 of its bus's Un", on the parent's side and on its own
   pub transformer-volts : busAt (n .buses) i .kind ≡ 2 → Rated (busAt (n .buses) i .f1) (parentOf (n .buses) i .volts) × Rated (busAt (n .buses) i .f2) (busAt (n .buses) i .volts)
   transformer-volts k =
       let b = busAt (n .buses) i in
       let p = parentOf (n .buses) i in
-      let e = both-true (ratedOk (b .f1) (p .volts)) (ratedOk (b .f2) (b .volts)) (rw k at (bus-tests .1 .1 .1 .1 .1 .0)) in
+      let e = both-true (ratedOk (b .f1) (p .volts)) (ratedOk (b .f2) (b .volts)) (rw k at (bus-test 7)) in
       (rated-near (b .f1) (p .volts) (e .0), rated-near (b .f2) (b .volts) (e .1))
 
   -- "At most 18 branches, 4 of them transformers, lead from bus 0 to any bus."
   pub bus-depth : (depthOf (n .buses) i ≤ maxBranches) × (transformersOf (n .buses) i ≤ maxTransformers)
   unfolding depthOk
   bus-depth =
-      let e = both-true (leb (depthOf (n .buses) i) maxBranches) (leb (transformersOf (n .buses) i) maxTransformers) (bus-tests .1 .1 .1 .1 .1 .1 .0) in
+      let e = both-true (leb (depthOf (n .buses) i) maxBranches) (leb (transformersOf (n .buses) i) maxTransformers) (bus-test 8) in
       (leb-true _ _ (e .0), leb-true _ _ (e .1))
 
   pub bus-rating : (1 ≤ busAt (n .buses) i .rating) × (busAt (n .buses) i .rating ≤ 1000000)
   bus-rating =
       let b = busAt (n .buses) i in
-      within-true (b .rating) 1 1000000 (both-true (within (b .rating) 1 1000000) (within (b .«peak_rating») 1 3000000) (bus-tests .1 .1 .1 .1 .1 .1 .1 .0) .0)
+      within-true (b .rating) 1 1000000 (both-true (within (b .rating) 1 1000000) (within (b .«peak_rating») 1 3000000) (bus-test 9) .0)
 
   pub bus-peak-rating : (1 ≤ busAt (n .buses) i .«peak_rating») × (busAt (n .buses) i .«peak_rating» ≤ 3000000)
   bus-peak-rating =
       let b = busAt (n .buses) i in
-      within-true (b .«peak_rating») 1 3000000 (both-true (within (b .rating) 1 1000000) (within (b .«peak_rating») 1 3000000) (bus-tests .1 .1 .1 .1 .1 .1 .1 .0) .1)
+      within-true (b .«peak_rating») 1 3000000 (both-true (within (b .rating) 1 1000000) (within (b .«peak_rating») 1 3000000) (bus-test 9) .1)
 
 -- ---- the record of the source at place j
 module _ {n : Network} (r : Rebuilt n) (j : ℕ) (h : j < length (n .sources)) where
-  source-tests : Passed (sourceGrounds (n .buses) j (sourceAt (n .sources) j))
+  pub source-test : (k : ℕ) → testOf (sourceGrounds (n .buses) j (sourceAt (n .sources) j)) k ≡ true
   unfolding sourceRecordNumber
-  source-tests = passed (sourceGrounds (n .buses) j (sourceAt (n .sources) j)) refl (r .source-records j h)
+  source-test k = ground (sourceGrounds (n .buses) j (sourceAt (n .sources) j)) k refl (r .source-records j h)
 
   pub source-kind : (1 ≤ sourceAt (n .sources) j .kind) × (sourceAt (n .sources) j .kind ≤ 4)
-  source-kind = within-true (sourceAt (n .sources) j .kind) 1 4 (source-tests .0)
+  source-kind = within-true (sourceAt (n .sources) j .kind) 1 4 (source-test 10)
 
   pub source-bus : sourceAt (n .sources) j .bus < length (n .buses)
-  source-bus = ltb-true _ _ (source-tests .1 .0)
+  source-bus = ltb-true _ _ (source-test 11)
 
   -- the five fields, by the kind
   pub feeder-ranges : sourceAt (n .sources) j .kind ≡ 1 → FeederRanges (sourceAt (n .sources) j)
   unfolding fieldsOk
-  feeder-ranges k = feeder-fields (sourceAt (n .sources) j) (rw k at (source-tests .1 .1 .0))
+  feeder-ranges k = feeder-fields (sourceAt (n .sources) j) (rw k at (source-test 12))
 
   pub generator-ranges : sourceAt (n .sources) j .kind ≡ 2 → GeneratorRanges (sourceAt (n .sources) j)
   unfolding fieldsOk
-  generator-ranges k = generator-fields (sourceAt (n .sources) j) (rw k at (source-tests .1 .1 .0))
+  generator-ranges k = generator-fields (sourceAt (n .sources) j) (rw k at (source-test 12))
 
   pub motor-ranges : sourceAt (n .sources) j .kind ≡ 3 → MotorRanges (sourceAt (n .sources) j)
   unfolding fieldsOk
-  motor-ranges k = motor-fields (sourceAt (n .sources) j) (rw k at (source-tests .1 .1 .0))
+  motor-ranges k = motor-fields (sourceAt (n .sources) j) (rw k at (source-test 12))
 
   pub converter-ranges : sourceAt (n .sources) j .kind ≡ 4 → ConverterRanges (sourceAt (n .sources) j)
   unfolding fieldsOk
-  converter-ranges k = converter-fields (sourceAt (n .sources) j) (rw k at (source-tests .1 .1 .0))
+  converter-ranges k = converter-fields (sourceAt (n .sources) j) (rw k at (source-test 12))
 
   -- the rated volts of a generator or a motor against the nominal volts of its bus
   pub machine-volts : 2 ≤ sourceAt (n .sources) j .kind → sourceAt (n .sources) j .kind ≤ 3 → Rated (sourceAt (n .sources) j .f1) (busAt (n .buses) (sourceAt (n .sources) j .bus) .volts)
   machine-volts low high =
       let p = sourceAt (n .sources) j in
       let u = busAt (n .buses) (p .bus) .volts in
-      rated-near (p .f1) u (where-true (within (p .kind) 2 3) (ratedOk (p .f1) u) (source-tests .1 .1 .1 .0) (rw (le-leb 2 (p .kind) low, le-leb (p .kind) 3 high)))
+      rated-near (p .f1) u (where-true (within (p .kind) 2 3) (ratedOk (p .f1) u) (source-test 13) (rw (le-leb 2 (p .kind) low, le-leb (p .kind) 3 high)))
 
   -- "Exactly one, the first source, at bus 0."
   pub first-feeder : j ≡ 0 → (sourceAt (n .sources) j .kind ≡ 1) × (sourceAt (n .sources) j .bus ≡ 0)
   first-feeder z =
       let p = sourceAt (n .sources) j in
-      let e = both-true (eqb (p .kind) 1) (eqb (p .bus) 0) (at-zero j _ (not (eqb (p .kind) 1)) (source-tests .1 .1 .1 .1 .0) z) in
+      let e = both-true (eqb (p .kind) 1) (eqb (p .bus) 0) (at-zero j _ (not (eqb (p .kind) 1)) (source-test 14) z) in
       (eqb-true (p .kind) 1 (e .0), eqb-true (p .bus) 0 (e .1))

@@ -1,6 +1,6 @@
 -- The grounds on which a call is refused, in the order in which document 01 has them tried, and the network after each call. What depends
 -- on the limits is said of any edition of the program, by its limits L (`..In`), and then of this one (`here`).
-use mathlib.Core.Bool.{Bool, true, false, not, cond, _&&_, _||_}
+use mathlib.Core.Bool.{Bool, true, not, cond, _&&_, _||_}
 use mathlib.Core.List.{List, [], _∷_, _++_}
 use Prim.Native.Nat.{ℕ}
 use lib.Dec.{leb, ltb, eqb}
@@ -8,7 +8,7 @@ use lib.ListN.{length}
 use Rattle.network.specs.declared.Bus.{Bus}
 use Rattle.network.specs.declared.Source.{Source}
 use Rattle.network.specs.Records.{within, toleranceOk, voltsOk, ratingOk, branchOk, ratedOk, fieldsOk}
-use Rattle.network.specs.Network.{Network, Limits, here, maxBranches, maxTransformers, busAt, parentOf, depthOf, transformersOf}
+use Rattle.network.specs.Network.{Network, Limits, here, maxBranches, maxTransformers, openOf, withBus, withSource, closedAs, busAt, parentOf, depthOf, transformersOf}
 
 -- a ground: the test that a call has to pass, and the number that it is refused with
 pub record Ground : Type 0 where
@@ -33,7 +33,7 @@ abbrev pub startNumber : ℕ → ℕ
 startNumber t = first (on (toleranceOk t) 1 ∷ [])
 
 abbrev pub emptyOf : ℕ → Network
-emptyOf t = record { tolerance = t; closed = false; buses = []; sources = [] }
+emptyOf t = openOf t [] []
 
 abbrev pub startNetwork : ℕ → Network
 startNetwork t = emptyOf (cond (toleranceOk t) t 6)
@@ -88,10 +88,7 @@ busNumberIn L n b = first (addBusGroundsIn L n b)
 
 -- "a refused call adds nothing to it"
 unfoldable pub afterBusIn : Limits → Network → Bus → Network
-afterBusIn L n b =
-    cond (eqb (busNumberIn L n b) 0)
-    (record { tolerance = n .tolerance; closed = n .closed; buses = n .buses ++ (b ∷ []); sources = n .sources })
-    n
+afterBusIn L n b = cond (eqb (busNumberIn L n b) 0) (withBus n b) n
 
 abbrev pub addBusGrounds : Network → Bus → List Ground
 addBusGrounds = addBusGroundsIn here
@@ -134,10 +131,7 @@ unfoldable pub sourceNumberIn : Limits → Network → Source → ℕ
 sourceNumberIn L n p = first (addSourceGroundsIn L n p)
 
 unfoldable pub afterSourceIn : Limits → Network → Source → Network
-afterSourceIn L n p =
-    cond (eqb (sourceNumberIn L n p) 0)
-    (record { tolerance = n .tolerance; closed = n .closed; buses = n .buses; sources = n .sources ++ (p ∷ []) })
-    n
+afterSourceIn L n p = cond (eqb (sourceNumberIn L n p) 0) (withSource n p) n
 
 abbrev pub addSourceGrounds : Network → Source → List Ground
 addSourceGrounds = addSourceGroundsIn here
@@ -157,7 +151,4 @@ unfoldable pub closeNumber : Network → ℕ
 closeNumber n = first (closeGrounds n)
 
 unfoldable pub afterClose : Network → Network
-afterClose n =
-    cond (eqb (closeNumber n) 0)
-    (record { tolerance = n .tolerance; closed = true; buses = n .buses; sources = n .sources })
-    n
+afterClose n = cond (eqb (closeNumber n) 0) (closedAs true n) n

@@ -1,6 +1,6 @@
 -- The network of a study: its tolerance, whether it is closed, and the lists of its records, each kind in order.
-use mathlib.Core.Bool.{Bool, cond}
-use mathlib.Core.List.{List}
+use mathlib.Core.Bool.{Bool, false, cond}
+use mathlib.Core.List.{List, [], _∷_, _++_}
 use Prim.Native.Nat.{ℕ, _+_}
 use lib.Dec.{eqb}
 use lib.ListN.{take, getD}
@@ -26,6 +26,27 @@ network s = record {
   buses = take (s .«bus_count») (s .buses);
   sources = take (s .«source_count») (s .sources);
 }
+
+-- ---- how networks come about. No other definition and no law spells out a network, so that what a change leaves as it was stands here alone.
+-- an open network of these records
+abbrev pub openOf : ℕ → List Bus → List Source → Network
+openOf t bs ps = record { tolerance = t; closed = false; buses = bs; sources = ps }
+
+-- the same network with one bus more, the next number
+abbrev pub withBus : Network → Bus → Network
+withBus n b = record { tolerance = n .tolerance; closed = n .closed; buses = n .buses ++ (b ∷ []); sources = n .sources }
+
+-- with these sources for its own
+abbrev pub withSources : Network → List Source → Network
+withSources n ps = record { tolerance = n .tolerance; closed = n .closed; buses = n .buses; sources = ps }
+
+-- with one source more, at the next place
+abbrev pub withSource : Network → Source → Network
+withSource n p = withSources n (n .sources ++ (p ∷ []))
+
+-- closed or open
+abbrev pub closedAs : Bool → Network → Network
+closedAs c n = record { tolerance = n .tolerance; closed = c; buses = n .buses; sources = n .sources }
 
 -- the record that is read past the end of a list
 abbrev pub blank : Bus

@@ -17,7 +17,7 @@ use Rattle.network.specs.Grounds.{emptyOf, startNetwork, busRecordNumber
 use Rattle.network.specs.Calls.{Call, step, runFrom, run}
 use Rattle.network.specs.Calls.Call.{starting, addingBus, addingSource, closing, querying}
 use Rattle.network.specs.Booleans.{by-test, never}
-use Rattle.network.specs.Acceptance.{passed, accepted, bus-record-same, bus-room, bus-accepted, source-room, source-accepted, close-fed}
+use Rattle.network.specs.Acceptance.{ground, bus-record-same, bus-room, bus-accepted, source-room, source-accepted, close-fed}
 
 pub record Rebuilt (n : Network) : Type 0 where
   -- 6 or 10
@@ -69,11 +69,9 @@ bus-records-more l b all one =
 source-record-more : (l : List Bus) (b : Bus) (j : ℕ) (p : Source) → sourceRecordNumber l j p ≡ 0 → sourceRecordNumber (l ++ (b ∷ [])) j p ≡ 0
 unfolding sourceRecordNumber
 source-record-more l b j p e =
-    let h = passed (sourceGrounds l j p) refl e in
-    let at = ltb-true (p .bus) (length l) (h .1 .0) in
-    let same = List·getD-append l (b ∷ []) blank (p .bus) at in
-    accepted (sourceGrounds (l ++ (b ∷ [])) j p)
-    (h .0, (lt-ltb (p .bus) (length (l ++ (b ∷ []))) (omega (arith, length-append l (b ∷ []))), (h .1 .1 .0, (rw same (h .1 .1 .1 .0), h .1 .1 .1 .1))))
+    let at = ltb-true (p .bus) (length l) (ground (sourceGrounds l j p) 11 refl e) in
+    let more : p .bus < length (l ++ (b ∷ [])) = omega (arith, length-append l (b ∷ [])) in
+    rw (lt-ltb (p .bus) (length (l ++ (b ∷ []))) more, List·getD-append l (b ∷ []) blank (p .bus) at) (rw (lt-ltb (p .bus) (length l) at) at e)
 
 -- ---- the calls
 -- where a call is refused the network stays as it was

@@ -24,7 +24,7 @@ use Rattle.network.specs.declared.Bus.{Bus}
 use Rattle.network.specs.declared.Source.{Source}
 use Rattle.network.specs.declared.Verdict.the-variants.{Close}
 use Rattle.network.specs.Verdict.{verdictOn}
-use Rattle.network.specs.Network.{Network, along}
+use Rattle.network.specs.Network.{Network, openOf, closedAs, along}
 use Rattle.network.specs.Records.{branchOk, fieldsOk}
 use Rattle.network.specs.Grounds.{depthOk, busRecordNumber, busNumberIn, afterBusIn, sourceRecordNumber, sourceNumberIn, afterSourceIn, closeNumber, afterClose}
 use Rattle.network.specs.Calls.{Call, starting, addingBus, addingSource, closing, run}
@@ -53,7 +53,7 @@ abbrev solar : Source
 solar = record { kind = 4; bus = 1; f1 = 1000; f2 = 200; f3 = 0; f4 = 0; f5 = 0 }
 
 abbrev two : Network
-two = record { tolerance = 10; closed = true; buses = first ∷ second ∷ []; sources = infeed ∷ machine ∷ solar ∷ [] }
+two = closedAs true (openOf 10 (first ∷ second ∷ []) (infeed ∷ machine ∷ solar ∷ []))
 
 abbrev twoCalls : List Call
 twoCalls = starting 10 ∷ addingBus first ∷ addingBus second ∷ addingSource infeed ∷ addingSource machine ∷ addingSource solar ∷ closing ∷ []

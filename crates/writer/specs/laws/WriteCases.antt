@@ -6,7 +6,7 @@ use Prim.Native.Nat.{ℕ, _≤_, _<_}
 use borrow.Author.Tests.{le-leb, lt-leb, leb-true, eq-eqb, ne-eqb}
 use lib.ListN.{length, drop}
 use Rattle.network.specs.Network.{Network}
-use Rattle.network.specs.Acceptance.{passed}
+use Rattle.network.specs.Acceptance.{ground}
 use Rattle.writer.specs.Text.{textOf}
 use Rattle.writer.specs.Writing.{writeGrounds, writeNumber, writeLength, afterWrite}
 
@@ -26,11 +26,11 @@ module _ (n : Network) (room : ℕ) where
   -- what an accepted call shows
   pub write-closed : writeNumber n room ≡ 0 → n .closed ≡ true
   unfolding writeNumber
-  write-closed e = passed (writeGrounds n room) refl e .0
+  write-closed e = ground (writeGrounds n room) 22 refl e
 
   pub write-room : writeNumber n room ≡ 0 → length (textOf n) ≤ room
   unfolding writeNumber
-  write-room e = leb-true (length (textOf n)) room (passed (writeGrounds n room) refl e .1 .0)
+  write-room e = leb-true (length (textOf n)) room (ground (writeGrounds n room) 30 refl e)
 
 module _ (n : Network) (buffer : List ℕ) where
   pub write-refused : (writeNumber n (length buffer) ≡ 0 → ⊥) → (writeLength n (length buffer) ≡ 0) × (afterWrite n buffer ≡ buffer)

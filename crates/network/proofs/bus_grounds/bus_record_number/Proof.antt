@@ -1,9 +1,5 @@
--- `bus_record_number` meets its contract: the chain of grounds, link by link, each test by what its function ensures.
-use mathlib.Core.Path.{refl, ap, _∙_}
-use Rattle.network.specs.declared.Bus.{Bus}
-use Rattle.network.specs.Network.{busAt}
-use Rattle.network.specs.Grounds.{lineVoltsOk, transformerVoltsOk, busRecordNumber}
-use Rattle.network.proofs.Chain.{link}
+-- `bus_record_number` meets its contract: what the tests and the chain of `unless` ensure, put together.
+use Rattle.network.specs.Grounds.{busRecordNumber}
 use borrow.Author.Needs.{needs}
 use Rattle.network.proofs.bus_grounds.bus_record_number.Statement.{statement}
 use Rattle.network.proofs.bus_grounds.bus_record_number.Tie as tie
@@ -70,34 +66,7 @@ unless-requires-8 c κs = search needs
 
 returns : tie.Need-returns
 unfolding busRecordNumber
-returns c =
-    let c3 = c .before in
-    let c4 = c3 .before in
-    let c5 = c4 .before in
-    let c6 = c5 .before in
-    let c7 = c6 .before in
-    let c8 = c7 .before in
-    let c9 = c8 .before in
-    let rating = c9 .before in
-    let depth = rating .before in
-    let transformer = depth .before in
-    let line = transformer .before in
-    let branch = line .before in
-    let kind = branch .before in
-    let parent = kind .before in
-    let volts = parent .before in
-    let above = volts .before in
-    let a = above .before .before .before .args in
-    let b = busAt (a .t1) (a .i) in
-    link 2 (c .unless8 .ensures) (volts .volts-ok .ensures)
-    (link 3 (c3 .unless7 .ensures) (parent .parent-ok .ensures)
-    (link 4 (c4 .unless6 .ensures) (kind .kind-ok .ensures)
-    (link 5 (c5 .unless5 .ensures) (branch .branch-ok .ensures)
-    (link 6 (c6 .unless4 .ensures) (line .line-volts-ok .ensures ∙ ap (λ (p : Bus). lineVoltsOk p b) (above .record-at .ensures))
-    (link 7 (c7 .unless3 .ensures) (transformer .transformer-volts-ok .ensures ∙ ap (λ (p : Bus). transformerVoltsOk p b) (above .record-at .ensures))
-    (link 8 (c8 .unless2 .ensures) (depth .depth-ok .ensures)
-    (link 9 (c9 .unless .ensures) (rating .rating-ok .ensures)
-    refl)))))))
+returns c = cc
 
 pub bus-record-number-spec : {M : Type 1} → statement M
 bus-record-number-spec =

@@ -1,10 +1,5 @@
--- `source_record_number` meets its contract: the chain of grounds, link by link, each test by what its function ensures.
-use mathlib.Core.Path.{refl, ap, _∙_}
-use Prim.Native.Nat.{ℕ}
-use lib.Dec.{ltb}
-use Rattle.network.specs.declared.Bus.{Bus}
-use Rattle.network.specs.Grounds.{machineVoltsOk, sourceRecordNumber}
-use Rattle.network.proofs.Chain.{link}
+-- `source_record_number` meets its contract: what the tests and the chain of `unless` ensure, put together.
+use Rattle.network.specs.Grounds.{sourceRecordNumber}
 use borrow.Author.Needs.{needs}
 use Rattle.network.proofs.source_grounds.source_record_number.Statement.{statement}
 use Rattle.network.proofs.source_grounds.source_record_number.Tie as tie
@@ -47,24 +42,7 @@ unless-requires-5 c κs = search needs
 
 returns : tie.Need-returns
 unfolding sourceRecordNumber
-returns c =
-    let c11 = c .before in
-    let c12 = c11 .before in
-    let c13 = c12 .before in
-    let c14 = c13 .before in
-    let place = c14 .before in
-    let volts = place .before in
-    let fields = volts .before in
-    let kind = fields .before in
-    let total = kind .before in
-    let at = total .before in
-    let p = at .before .before .args .p in
-    link 10 (c .unless5 .ensures) (kind .kind-ok .ensures)
-    (link 11 (c11 .unless4 .ensures) (ap (λ (n : ℕ). ltb (p .bus) n) (total .bus-total .ensures))
-    (link 12 (c12 .unless3 .ensures) (fields .fields-ok .ensures)
-    (link 13 (c13 .unless2 .ensures) (volts .machine-volts-ok .ensures ∙ ap (λ (b : Bus). machineVoltsOk b p) (at .bus-at .ensures))
-    (link 14 (c14 .unless .ensures) (place .feeder-place-ok .ensures)
-    refl))))
+returns c = cc
 
 pub source-record-number-spec : {M : Type 1} → statement M
 source-record-number-spec =
