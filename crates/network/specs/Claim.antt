@@ -40,7 +40,8 @@ use Rattle.network.specs.Network.{Network}
 use Rattle.network.specs.Calls.{Call, run}
 use Rattle.network.specs.Rebuilt.{Rebuilt, run-rebuilt}
 use Rattle.network.specs.Facts.{bus-volts, few-buses, few-sources, closed-source}
-use Rattle.network.specs.Grid.{gridOf, converterAt, isConverter}
+use Rattle.network.specs.SourceKinds.{isConverter}
+use Rattle.network.specs.Grid.{gridOf, converterAt}
 use Rattle.network.specs.Demand.{Whole, MachinesHold, ConvertersHold, Demand}
 use Rattle.network.specs.NearPeaks.{MachinePeak, ConverterPeak, NearPeaks}
 use Rattle.network.specs.Rounded.{ownBy, convertersBy, branchesBy, seenAt, carriedAt, figuresBy, figuresAt, amperesAt}
