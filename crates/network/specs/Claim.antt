@@ -96,7 +96,7 @@ machines-hold : (c Un : ℕ) (P : Point) (y : Complex) → 0 < P .im → 0 < P .
     → MachinesHold (c * Un) (inverse P) (figuresBy c Un y y .lower) (figuresBy c Un y y .upper) (figuresBy c Un y y .peak)
 machines-hold c Un P y h d f = rw (impedance-of P h) (record {
   proper = let s = mul-pos h h in omega arith;
-  some = let s = mul-pos h d in omega arith;
+  reactive = mul-pos h d;
   below = below-as c Un (P .re) (P .im) (P .den) _ (f .bounds .below);
   above = above-as c Un (P .re) (P .im) (P .den) _ (f .bounds .above);
   narrow = width 1000 _ _ (lit≤ tt) (f .bounds .narrow);
