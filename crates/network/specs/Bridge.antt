@@ -21,7 +21,8 @@ use Rattle.sweep.specs.laws.Swept.{all-walk}
 use Rattle.network.specs.declared.Bus.{Bus}
 use Rattle.network.specs.Network.{Network, maxBuses, blank, busAt}
 use Rattle.network.specs.Grid.{gridOf, aboveOf, belowOf, machineAt}
-use Rattle.network.specs.Rounded.{admittanceBy, ownBy, convertersBy, branchesBy, treeOf, treeGrid, branchPoints, standingOf, boardOf, seenAt, carriedAt}
+use Rattle.network.specs.RoundedSourceKinds.{admittanceBy}
+use Rattle.network.specs.Rounded.{ownBy, convertersBy, branchesBy, treeOf, treeGrid, branchPoints, standingOf, boardOf, seenAt, carriedAt}
 
 -- a column of numbers at any place, where the blank record has 0
 pub number-all : (f : Bus → ℕ) (l : List Bus) → f blank ≡ 0 → length l ≤ maxBuses → (i : ℕ) → numberAt (column (λ j. f (busAt l j))) i ≡ f (busAt l i)

@@ -41,7 +41,8 @@ use Rattle.network.specs.Network.{Network, maxBuses}
 use Rattle.network.specs.Calls.{Call, run}
 use Rattle.network.specs.Rebuilt.{Rebuilt, run-rebuilt}
 use Rattle.network.specs.Facts.{bus-volts, few-buses, closed-source}
-use Rattle.network.specs.Grid.{gridOf, converterAt, isConverter}
+use Rattle.network.specs.SourceKinds.{isConverter}
+use Rattle.network.specs.Grid.{gridOf, converterAt}
 use Rattle.network.specs.Demand.{Whole, MachinesHold, ConvertersHold, Demand}
 use Rattle.network.specs.NearPeaks.{MachinePeak, ConverterPeak, NearPeaks}
 use Rattle.network.specs.Rounded.{ownBy, convertersBy, branchesBy, seenAt, carriedAt, figuresBy, figuresAt, amperesAt}
@@ -95,7 +96,7 @@ machines-hold : (c Un : ℕ) (P : Point) (y : Complex) → 0 < P .im → 0 < P .
     → MachinesHold (c * Un) (inverse P) (figuresBy c Un y y .lower) (figuresBy c Un y y .upper) (figuresBy c Un y y .peak)
 machines-hold c Un P y h d f = rw (impedance-of P h) (record {
   proper = let s = mul-pos h h in omega arith;
-  some = let s = mul-pos h d in omega arith;
+  reactive = mul-pos h d;
   below = below-as c Un (P .re) (P .im) (P .den) _ (f .bounds .below);
   above = above-as c Un (P .re) (P .im) (P .den) _ (f .bounds .above);
   narrow = width 1000 _ _ (lit≤ tt) (f .bounds .narrow);

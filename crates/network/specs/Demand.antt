@@ -50,9 +50,9 @@ Narrow lower upper = 1000 * upper ≤ 1000 * (lower + 2) + upper
 
 -- the machines' two bounds and peak against the impedance Z
 pub record MachinesHold (v : ℕ) (Z : Point) (lower upper peak : ℕ) : Type 0 where
-  -- Z is a fraction and not nothing, so that no comparison holds for want of either
+  -- Z is a fraction, and "every machine has X above 0": so R/X is one too, and no comparison holds because there is nothing to compare
   pub proper : 0 < Z .den
-  pub some : 0 < Z .re + Z .im
+  pub reactive : 0 < Z .im
   pub below : NotAbove v Z lower
   pub above : NotBelow v Z upper
   pub narrow : Narrow lower upper

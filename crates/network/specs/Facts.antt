@@ -4,12 +4,13 @@ use mathlib.Core.Bool.{true, not}
 use mathlib.Core.Logic.{_⊎_, inl, inr}
 use Prim.Native.Nat.{ℕ, _+_, _*_, _≤_, _<_}
 use native.Mathlib.Omega.{arith}
-use borrow.Author.Tests.{leb-true, ltb-true, eqb-true, le-leb, eqb-false}
+use borrow.Author.Tests.{leb-true, ltb-true, eqb-true, eqb-false}
 use lib.Dec.{leb, eqb}
 use lib.ListN.{length}
 use Rattle.network.specs.declared.Bus.{Bus}
 use Rattle.network.specs.declared.Source.{Source}
-use Rattle.network.specs.Records.{within, all, lineTests, transformerTests, branchOk, ratedOk, feederTests, generatorTests, motorTests, converterTests, fieldsOk}
+use Rattle.network.specs.Records.{within, all, lineTests, transformerTests, branchOk, ratedOk}
+use Rattle.network.specs.SourceKinds.{isFeeder, feederTests, generatorTests, motorTests, converterTests, fieldsOk, isRated, machineVolts, sourceKindOk}
 use Rattle.network.specs.Network.{Network, maxBuses, maxSources, maxBranches, maxTransformers, busAt, parentOf, sourceAt, depthOf, transformersOf}
 use Rattle.network.specs.Grounds.{depthOk, busGrounds, busRecordNumber, sourceGrounds, sourceRecordNumber}
 use Rattle.network.specs.Booleans.{by-test, both-true, where-true, within-true, at-zero, past-zero, all-true, not-both-zero}
@@ -195,8 +196,11 @@ module _ {n : Network} (r : Rebuilt n) (j : ℕ) (h : j < length (n .sources)) w
   unfolding sourceRecordNumber
   source-test k = ground (sourceGrounds (n .buses) j (sourceAt (n .sources) j)) k refl (r .source-records j h)
 
+  pub source-kind-ok : sourceKindOk (sourceAt (n .sources) j) ≡ true
+  source-kind-ok = source-test 10
+
   pub source-kind : (1 ≤ sourceAt (n .sources) j .kind) × (sourceAt (n .sources) j .kind ≤ 4)
-  source-kind = within-true (sourceAt (n .sources) j .kind) 1 4 (source-test 10)
+  source-kind = within-true (sourceAt (n .sources) j .kind) 1 4 source-kind-ok
 
   pub source-bus : sourceAt (n .sources) j .bus < length (n .buses)
   source-bus = ltb-true _ _ (source-test 11)
@@ -218,16 +222,16 @@ module _ {n : Network} (r : Rebuilt n) (j : ℕ) (h : j < length (n .sources)) w
   unfolding fieldsOk
   converter-ranges k = converter-fields (sourceAt (n .sources) j) (rw k at (source-test 12))
 
-  -- the rated volts of a generator or a motor against the nominal volts of its bus
-  pub machine-volts : 2 ≤ sourceAt (n .sources) j .kind → sourceAt (n .sources) j .kind ≤ 3 → Rated (sourceAt (n .sources) j .f1) (busAt (n .buses) (sourceAt (n .sources) j .bus) .volts)
-  machine-volts low high =
+  -- the rated volts of a machine that has them against the nominal volts of its bus
+  pub machine-volts : isRated (sourceAt (n .sources) j) ≡ true → Rated (machineVolts (sourceAt (n .sources) j)) (busAt (n .buses) (sourceAt (n .sources) j .bus) .volts)
+  machine-volts e =
       let p = sourceAt (n .sources) j in
       let u = busAt (n .buses) (p .bus) .volts in
-      rated-near (p .f1) u (where-true (within (p .kind) 2 3) (ratedOk (p .f1) u) (source-test 13) (rw (le-leb 2 (p .kind) low, le-leb (p .kind) 3 high)))
+      rated-near (machineVolts p) u (where-true (isRated p) (ratedOk (machineVolts p) u) (source-test 13) e)
 
   -- "Exactly one, the first source, at bus 0."
   pub first-feeder : j ≡ 0 → (sourceAt (n .sources) j .kind ≡ 1) × (sourceAt (n .sources) j .bus ≡ 0)
   first-feeder z =
       let p = sourceAt (n .sources) j in
-      let e = both-true (eqb (p .kind) 1) (eqb (p .bus) 0) (at-zero j _ (not (eqb (p .kind) 1)) (source-test 14) z) in
+      let e = both-true (isFeeder p) (eqb (p .bus) 0) (at-zero j _ (not (isFeeder p)) (source-test 14) z) in
       (eqb-true (p .kind) 1 (e .0), eqb-true (p .bus) 0 (e .1))

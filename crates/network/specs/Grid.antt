@@ -1,7 +1,7 @@
 -- Document 01, "Seen impedance": a network's records as a tree of branches with what stands at each bus, exact.
 use Prim.Native.Nat.{ℕ, min}
 use mathlib.Core.Bool.{Bool, cond, _&&_}
-use lib.Dec.{leb, eqb}
+use lib.Dec.{eqb}
 use lib.ListN.{length}
 use Rattle.enclosure.specs.Point.{Point, nothing, sum, inverse}
 use Rattle.elements.specs.Impedance as impedance
@@ -10,6 +10,7 @@ use Rattle.tree.specs.Converters.{carried}
 use Rattle.tree.specs.Sums.{sumOf}
 use Rattle.network.specs.declared.Bus.{Bus}
 use Rattle.network.specs.declared.Source.{Source}
+use Rattle.network.specs.SourceKinds.{isMachine, isConverter, impedanceOf, currentOf}
 use Rattle.network.specs.Network.{Network, busAt, parentOf}
 
 -- "Line"; "Transformer, own side: .., c by the lower of the two nominal voltages". Bus 0 has no branch
@@ -26,29 +27,11 @@ aboveOf b = cond (eqb (b .kind) 2) (b .f1) 1
 unfoldable pub belowOf : Bus → ℕ
 belowOf b = cond (eqb (b .kind) 2) (b .f2) 1
 
--- "Feeder", "Generator: .., c by its bus", "Motor"; Un is that of the source's bus
-unfoldable pub impedanceOf : ℕ → ℕ → Source → Point
-impedanceOf tolerance Un p =
-    cond (eqb (p .kind) 1) (impedance.feeder tolerance Un (p .f1) (p .f2))
-    (cond (eqb (p .kind) 2) (impedance.generator tolerance Un (p .f1) (p .f2) (p .f3) (p .f4) (p .f5))
-    (cond (eqb (p .kind) 3) (impedance.motor (p .f1) (p .f2) (p .f3) (p .f4))
-    nothing))
-
 -- "1/Z of each feeder, generator and motor"
 abbrev pub admittanceOf : Network → Source → Point
 admittanceOf n p = inverse (impedanceOf (n .tolerance) (busAt (n .buses) (p .bus) .volts) p)
 
--- "rated current·k" of a converter
-abbrev pub currentOf : Source → Point
-currentOf p = impedance.converter (p .f1) (p .f2)
-
--- a feeder, generator or motor; a converter; and which stands at bus b
-abbrev pub isMachine : Source → Bool
-isMachine p = leb (p .kind) 3
-
-abbrev pub isConverter : Source → Bool
-isConverter p = eqb (p .kind) 4
-
+-- the machines and the converters that stand at bus b
 abbrev pub machineAt : ℕ → Source → Bool
 machineAt b p = isMachine p && eqb (p .bus) b
 

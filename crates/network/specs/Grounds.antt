@@ -7,7 +7,8 @@ use lib.Dec.{leb, ltb, eqb}
 use lib.ListN.{length}
 use Rattle.network.specs.declared.Bus.{Bus}
 use Rattle.network.specs.declared.Source.{Source}
-use Rattle.network.specs.Records.{within, toleranceOk, voltsOk, ratingOk, branchOk, ratedOk, fieldsOk}
+use Rattle.network.specs.Records.{within, toleranceOk, voltsOk, ratingOk, branchOk, ratedOk}
+use Rattle.network.specs.SourceKinds.{isFeeder, sourceKindOk, fieldsOk, isRated, machineVolts}
 use Rattle.network.specs.Network.{Network, Limits, here, maxBranches, maxTransformers, openOf, withBus, withSource, closedAs, busAt, parentOf, depthOf, transformersOf}
 
 -- a ground: the test that a call has to pass, and the number that it is refused with
@@ -100,18 +101,18 @@ abbrev pub afterBus : Network → Bus → Network
 afterBus = afterBusIn here
 
 -- ---- adding a source
--- "13 machine rated voltage.", of a generator or a motor
+-- "13 machine rated voltage.", of a machine that has rated volts
 abbrev pub machineVoltsOk : Bus → Source → Bool
-machineVoltsOk b p = not (within (p .kind) 2 3) || ratedOk (p .f1) (b .volts)
+machineVoltsOk b p = not (isRated p) || ratedOk (machineVolts p) (b .volts)
 
 -- "14 first source not a feeder, feeder elsewhere than bus 0, or a second one."
 abbrev pub feederPlaceOk : ℕ → Source → Bool
-feederPlaceOk j p = atZero j (eqb (p .kind) 1 && eqb (p .bus) 0) (not (eqb (p .kind) 1))
+feederPlaceOk j p = atZero j (isFeeder p && eqb (p .bus) 0) (not (isFeeder p))
 
 -- the grounds in the input for the record of the source at place j over a list of buses
 abbrev pub sourceGrounds : List Bus → ℕ → Source → List Ground
 sourceGrounds l j p =
-    on (within (p .kind) 1 4) 10
+    on (sourceKindOk p) 10
     ∷ on (ltb (p .bus) (length l)) 11
     ∷ on (fieldsOk p) 12
     ∷ on (machineVoltsOk (busAt l (p .bus)) p) 13

@@ -1,8 +1,10 @@
 pub mod Records
+pub mod SourceKinds
 pub mod Network
 pub mod Grounds
 pub mod Calls
 pub mod Booleans
+pub mod SourceKindsLaw
 pub mod Ways
 pub mod Acceptance
 pub mod Rebuilt
@@ -11,6 +13,7 @@ pub mod Reached
 pub mod Grid
 pub mod Demand
 pub mod NearPeaks
+pub mod RoundedSourceKinds
 pub mod Rounded
 pub mod Verdict
 pub mod Query

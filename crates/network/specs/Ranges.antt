@@ -8,9 +8,9 @@ use mathlib.Core.Logic.{inr, ⊎-elim}
 use native.Mathlib.Omega.{arith}
 use native.Mathlib.Nat.{le-trans, mul-le-mul, mul-pos}
 use native.Mathlib.Numerals.{add-one}
-use lib.Dec.{ltb, eqb, lit<, lit≤}
+use lib.Dec.{ltb, lit<, lit≤}
 use lib.ListN.{length}
-use borrow.Author.Tests.{eqb-true, eqb-false, ne-eqb, leb-true}
+use borrow.Author.Tests.{eqb-true, ne-eqb}
 use Rattle.algebra.specs.Reading.{from, read, _⊹_, _⋆_}
 use Rattle.enclosure.specs.Point.{Point, exact, inverse}
 use Rattle.enclosure.specs.Near.{inverse-proper}
@@ -28,10 +28,12 @@ use Rattle.tree.specs.Sources.{Bounded}
 use Rattle.network.specs.Network as records
 use Rattle.network.specs.Network.{Network, busAt, sourceAt, along}
 use Rattle.network.specs.Rebuilt.{Rebuilt}
-use Rattle.network.specs.Booleans.{by-test}
-use Rattle.network.specs.Facts.{bus-volts, bus-parent, bus-kind, line-ranges, transformer-ranges, line-volts, transformer-volts, bus-depth, Rated, source-kind, source-bus, feeder-ranges, generator-ranges, motor-ranges, converter-ranges, machine-volts, ConverterRanges}
-use Rattle.network.specs.Grid.{branchOf, aboveOf, belowOf, impedanceOf, admittanceOf, currentOf, isMachine, isConverter, gridOf}
-use Rattle.network.specs.Rounded.{branchBy, admittanceBy, machineBy, suppliedBy, branchesBy}
+use Rattle.network.specs.Facts.{bus-volts, bus-parent, bus-kind, line-ranges, transformer-ranges, line-volts, transformer-volts, bus-depth, Rated, source-kind-ok, source-bus, feeder-ranges, generator-ranges, motor-ranges, converter-ranges, machine-volts, ConverterRanges}
+use Rattle.network.specs.SourceKinds.{isMachine, isConverter, impedanceOf, currentOf}
+use Rattle.network.specs.SourceKindsLaw.{machine-cases}
+use Rattle.network.specs.RoundedSourceKinds.{admittanceBy, suppliedBy}
+use Rattle.network.specs.Grid.{branchOf, aboveOf, belowOf, admittanceOf, gridOf}
+use Rattle.network.specs.Rounded.{branchBy, machineBy, branchesBy}
 use Rattle.network.specs.Elements.{branchMost, machineMost, line-impedance, line-least, transformer-impedance, transformer-least, transformer-least-above, Machine, feeder-machine, generator-machine, motor-machine}
 
 -- nominal volts
@@ -188,19 +190,13 @@ module _ {n : Network} (r : Rebuilt n) where
         → (sourceAt (n .sources) j .kind ≡ 2 → P (impedanceOf (n .tolerance) (voltsOf n (sourceAt (n .sources) j .bus)) (sourceAt (n .sources) j)) (machineBy n (sourceAt (n .sources) j)))
         → (sourceAt (n .sources) j .kind ≡ 3 → P (impedanceOf (n .tolerance) (voltsOf n (sourceAt (n .sources) j .bus)) (sourceAt (n .sources) j)) (machineBy n (sourceAt (n .sources) j)))
         → P (impedanceOf (n .tolerance) (voltsOf n (sourceAt (n .sources) j .bus)) (sourceAt (n .sources) j)) (machineBy n (sourceAt (n .sources) j))
-    cases P one two three =
-        let k = sourceAt (n .sources) j .kind in
-        let h = source-kind r j l in
-        let g = leb-true k 3 m in
-        by-test (eqb k 1) (λ e. one (eqb-true k 1 e))
-        (λ e. by-test (eqb k 2) (λ d. two (eqb-true k 2 d))
-        (λ d. three (omega (arith, eqb-false k 1 e, eqb-false k 2 d))))
+    cases P one two three = ⊎-elim one (⊎-elim two three) (machine-cases (sourceAt (n .sources) j) (source-kind-ok r j l) m)
 
     rated : sourceAt (n .sources) j .kind ≡ 2 → Rated (sourceAt (n .sources) j .f1) (voltsOf n (sourceAt (n .sources) j .bus))
-    rated k = machine-volts r j l (omega arith) (omega arith)
+    rated k = machine-volts r j l (rw k)
 
     rated-three : sourceAt (n .sources) j .kind ≡ 3 → Rated (sourceAt (n .sources) j .f1) (voltsOf n (sourceAt (n .sources) j .bus))
-    rated-three k = machine-volts r j l (omega arith) (omega arith)
+    rated-three k = machine-volts r j l (rw k)
 
     -- its impedance is in range
     pub machine-sized : Machine (voltsOf n (sourceAt (n .sources) j .bus)) (impedanceOf (n .tolerance) (voltsOf n (sourceAt (n .sources) j .bus)) (sourceAt (n .sources) j))

@@ -1,11 +1,10 @@
--- The ranges that document 01, "The study", gives the fields of a bus record and of a source record, kind by kind.
--- Each is a test with the answer true or false, so that the grounds of refusal can be tried one after the other.
+-- The ranges that document 01, "The study", gives the tolerance and the fields of a bus record, kind by kind; those of a source record
+-- are in SourceKinds. Each is a test with the answer true or false, so that the grounds of refusal can be tried one after the other.
 use mathlib.Core.Bool.{Bool, true, not, cond, _&&_, _||_}
 use mathlib.Core.List.{List, [], _∷_}
 use Prim.Native.Nat.{ℕ, _*_}
 use lib.Dec.{leb, ltb, eqb}
 use Rattle.network.specs.declared.Bus.{Bus}
-use Rattle.network.specs.declared.Source.{Source}
 
 -- low..high, both ends included; where low is 0 the upper end alone is tested
 abbrev pub within : ℕ → ℕ → ℕ → Bool
@@ -59,32 +58,3 @@ branchOk b = cond (eqb (b .kind) 1) (all (lineTests b)) (cond (eqb (b .kind) 2) 
 -- "A rated voltage lies from 9/10 to 11/10 of its bus's Un, ends included."
 abbrev pub ratedOk : ℕ → ℕ → Bool
 ratedOk rated nominal = leb (9 * nominal) (10 * rated) && leb (10 * rated) (11 * nominal)
-
--- "ρ is R/X in hundredths, 0..200."
-abbrev pub ratioOk : ℕ → Bool
-ratioOk ρ = leb ρ 200
-
--- "1, feeder: short-circuit kVA 1,000..100,000,000; ρ; 0; 0; 0."
-abbrev pub feederTests : Source → List Bool
-feederTests p = within (p .f1) 1000 100000000 ∷ ratioOk (p .f2) ∷ eqb (p .f3) 0 ∷ eqb (p .f4) 0 ∷ eqb (p .f5) 0 ∷ []
-
--- "2, generator: rated volts; kVA 10..1,000,000; xd 1,000..100,000 (thousandths of a percent); ρ; power factor 70..100 hundredths."
--- The rated volts are held to the nominal ones alone, by ground 13.
-abbrev pub generatorTests : Source → List Bool
-generatorTests p = within (p .f2) 10 1000000 ∷ within (p .f3) 1000 100000 ∷ ratioOk (p .f4) ∷ within (p .f5) 70 100 ∷ []
-
--- "3, motor: rated volts; kVA 1..100,000; starting ratio 10..100 tenths; ρ; 0." The rated volts as a generator's.
-abbrev pub motorTests : Source → List Bool
-motorTests p = within (p .f2) 1 100000 ∷ within (p .f3) 10 100 ∷ ratioOk (p .f4) ∷ eqb (p .f5) 0 ∷ []
-
--- "4, converter: rated current 1..100,000 tenths of an ampere; k 100..300 hundredths; 0; 0; 0."
-abbrev pub converterTests : Source → List Bool
-converterTests p = within (p .f1) 1 100000 ∷ within (p .f2) 100 300 ∷ eqb (p .f3) 0 ∷ eqb (p .f4) 0 ∷ eqb (p .f5) 0 ∷ []
-
--- the five fields of a source, by the kind
-unfoldable pub fieldsOk : Source → Bool
-fieldsOk p =
-    cond (eqb (p .kind) 1) (all (feederTests p))
-    (cond (eqb (p .kind) 2) (all (generatorTests p))
-    (cond (eqb (p .kind) 3) (all (motorTests p))
-    (all (converterTests p))))

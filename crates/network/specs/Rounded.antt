@@ -6,9 +6,9 @@ use lib.Dec.{eqb}
 use lib.ListN.{length}
 use Rattle.enclosure.specs.declared.Complex.{Complex}
 use Rattle.enclosure.specs.Units.{ofNat}
-use Rattle.enclosure.specs.Doubles.{none, added, inverted, doubles, lowerOf, upperOf}
+use Rattle.enclosure.specs.Doubles.{none, added, doubles, lowerOf, upperOf}
 use Rattle.elements.specs.Factors.{factorC}
-use Rattle.elements.specs.Rounded.{lineBy, transformerBy, feederBy, generatorBy, motorBy, converterBy}
+use Rattle.elements.specs.Rounded.{lineBy, transformerBy}
 use Rattle.elements.specs.Currents.{currentBy, machinePeakBy, converterPeakBy}
 use Rattle.tree.specs.Grid.{Grid}
 use Rattle.tree.specs.Converters.{gathered, fromRoot}
@@ -24,6 +24,7 @@ use Rattle.network.specs.declared.Amperes.{Amperes}
 use Rattle.network.specs.declared.columns.TreeColumns.{TreeColumns}
 use Rattle.network.specs.declared.columns.Standing.{Standing}
 use Rattle.network.specs.declared.board.Board.{Board}
+use Rattle.network.specs.RoundedSourceKinds.{admittanceBy, suppliedBy}
 use Rattle.network.specs.Network.{Network, busAt, parentOf}
 use Rattle.network.specs.Grid.{aboveOf, belowOf, machineAt, converterAt}
 use Rattle.network.specs.Demand.{Figures}
@@ -35,19 +36,9 @@ branchBy tolerance parent b =
     (cond (eqb (b .kind) 2) (transformerBy tolerance (min (parent .volts) (b .volts)) (b .f2) (b .f3) (b .f4) (b .f5))
     none)
 
--- a machine's admittance
-unfoldable pub admittanceBy : ℕ → ℕ → Source → Complex
-admittanceBy tolerance Un p =
-    cond (eqb (p .kind) 1) (inverted (feederBy tolerance Un (p .f1) (p .f2)))
-    (cond (eqb (p .kind) 2) (inverted (generatorBy tolerance Un (p .f1) (p .f2) (p .f3) (p .f4) (p .f5)))
-    (cond (eqb (p .kind) 3) (inverted (motorBy (p .f1) (p .f2) (p .f3) (p .f4)))
-    none))
-
+-- a machine's admittance, by Un of its bus
 abbrev pub machineBy : Network → Source → Complex
 machineBy n p = admittanceBy (n .tolerance) (busAt (n .buses) (p .bus) .volts) p
-
-abbrev pub suppliedBy : Source → Complex
-suppliedBy p = converterBy (p .f1) (p .f2)
 
 -- by the records, as a walk reads them (Bridge shows that the columns hold the same): what stands at a bus itself, and its branch
 abbrev pub ownBy : Network → ℕ → Complex

@@ -2,12 +2,10 @@
 -- bus gets the same bounds and the same peak for the machines' part. Assumes nothing.
 use Prim.Native.Nat.{ℕ, _<_}
 use mathlib.Core.Path.{_≡_, _∙_, ap, ap₂}
-use mathlib.Core.Bool.{Bool, true, not}
+use mathlib.Core.Bool.{true}
 use mathlib.Core.List.{List}
-use native.Mathlib.Omega.{arith}
 use lib.Dec.{eqb}
 use lib.ListN.{length}
-use borrow.Author.Tests.{leb-true, ne-eqb}
 use lib.Ieee.{Float}
 use Rattle.enclosure.specs.Units.{ofNat}
 use Rattle.enclosure.specs.Doubles.{none, added, lowerOf, upperOf}
@@ -20,33 +18,27 @@ use Rattle.sweep.specs.Columns.{numberAt}
 use Rattle.sweep.specs.Sweep.{seenOf}
 use Rattle.sweep.specs.laws.Columns.{points-same}
 use Rattle.network.specs.declared.Bus.{Bus}
-use Rattle.network.specs.declared.Source.{Source}
 use Rattle.network.specs.declared.Amperes.{Amperes}
 use Rattle.network.specs.Network.{Network, busAt}
 use Rattle.network.specs.Calls.{Call, run}
 use Rattle.network.specs.Booleans.{both-true}
-use Rattle.network.specs.Grid.{isMachine, isConverter, machineAt}
-use Rattle.network.specs.Rounded.{admittanceBy, treeOf, standingOf, risesBy, fallsBy, boardOf, seenAt, amperesAt}
+use Rattle.network.specs.SourceKinds.{isMachine}
+use Rattle.network.specs.RoundedSourceKinds.{admittanceBy}
+use Rattle.network.specs.Grid.{machineAt}
+use Rattle.network.specs.Rounded.{treeOf, standingOf, risesBy, fallsBy, boardOf, seenAt, amperesAt}
 
--- a feeder, generator or motor
-abbrev pub notConverter : Source → Bool
-notConverter p = not (isConverter p)
-
+-- the other sources are the machines: whatever is no converter
 pub record Alike (n m : Network) : Type 0 where
   pub tolerance : n .tolerance ≡ m .tolerance
   pub buses : n .buses ≡ m .buses
-  pub others : filtered notConverter (n .sources) ≡ filtered notConverter (m .sources)
-
--- what counts as a machine is no converter
-machine-not : (b : ℕ) (p : Source) → machineAt b p ≡ true → notConverter p ≡ true
-machine-not b p e = let h = leb-true (p .kind) 3 (both-true (isMachine p) (eqb (p .bus) b) e .0) in rw (ne-eqb (p .kind) 4 (λ d. omega arith))
+  pub others : filtered isMachine (n .sources) ≡ filtered isMachine (m .sources)
 
 -- what stands at the buses as machines, by the columns of either network
 own-alike : (n m : Network) → Alike n m → standingOf (n .tolerance) (treeOf (n .buses) .volts) (n .sources) .own ≡ standingOf (n .tolerance) (treeOf (n .buses) .volts) (m .sources) .own
 unfolding standingOf
 own-alike n m a =
     points-same _ _
-    (λ b. sum-alike added (machineAt b) notConverter (machine-not b) (λ p. admittanceBy (n .tolerance) (numberAt (treeOf (n .buses) .volts) (p .bus)) p) none (n .sources) (m .sources) (a .others))
+    (λ b. sum-alike added (machineAt b) isMachine (λ p e. both-true (isMachine p) (eqb (p .bus) b) e .0) (λ p. admittanceBy (n .tolerance) (numberAt (treeOf (n .buses) .volts) (p .bus)) p) none (n .sources) (m .sources) (a .others))
 
 -- what both sweeps see, of what stands at the buses as machines
 abbrev seenFrom : ℕ → List Bus → Points → ℕ → Complex

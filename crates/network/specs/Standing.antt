@@ -24,8 +24,10 @@ use Rattle.network.specs.Network.{Network, sourceAt, blankSource}
 use Rattle.network.specs.Rebuilt.{Rebuilt}
 use Rattle.network.specs.Booleans.{both-true}
 use Rattle.network.specs.Facts.{few-sources, first-feeder, bus-volts}
-use Rattle.network.specs.Grid.{admittanceOf, currentOf, isMachine, isConverter, machineAt, converterAt, gridOf}
-use Rattle.network.specs.Rounded.{machineBy, suppliedBy, ownBy, convertersBy}
+use Rattle.network.specs.SourceKinds.{currentOf, isMachine, isConverter}
+use Rattle.network.specs.RoundedSourceKinds.{suppliedBy}
+use Rattle.network.specs.Grid.{admittanceOf, machineAt, converterAt, gridOf}
+use Rattle.network.specs.Rounded.{machineBy, ownBy, convertersBy}
 use Rattle.network.specs.Elements.{machineMost}
 use Rattle.network.specs.Ranges.{voltsOf, branch-impedance, machine-near, machine-bounded, machine-volt-bounded, machine-reactive, supply-near, supply-bounded}
 

@@ -25,10 +25,11 @@ use Rattle.network.specs.declared.Source.{Source}
 use Rattle.network.specs.declared.Verdict.the-variants.{Close}
 use Rattle.network.specs.Verdict.{verdictOn}
 use Rattle.network.specs.Network.{Network, openOf, closedAs, along}
-use Rattle.network.specs.Records.{branchOk, fieldsOk}
+use Rattle.network.specs.Records.{branchOk}
+use Rattle.network.specs.SourceKinds.{fieldsOk, impedanceOf}
 use Rattle.network.specs.Grounds.{depthOk, busRecordNumber, busNumberIn, afterBusIn, sourceRecordNumber, sourceNumberIn, afterSourceIn, closeNumber, afterClose}
 use Rattle.network.specs.Calls.{Call, starting, addingBus, addingSource, closing, run}
-use Rattle.network.specs.Grid.{branchOf, aboveOf, belowOf, impedanceOf, impedanceAt, convertersAt}
+use Rattle.network.specs.Grid.{branchOf, aboveOf, belowOf, impedanceAt, convertersAt}
 use Rattle.network.specs.Demand.{Figures, NotAbove, NotBelow, driving, MachinesHold, ConvertersHold, Demand}
 use Rattle.network.specs.Rounded.{amperesAt}
 use Rattle.network.specs.Query.{verdictGiven}

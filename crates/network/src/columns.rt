@@ -9,9 +9,10 @@ use crate::Bus;
 use crate::SOURCES;
 use crate::Source;
 use crate::records::branch_impedance;
-use crate::records::converter_current;
-use crate::records::machine_admittance;
 use crate::records::rated_volts;
+use crate::source_kinds::converter_current;
+use crate::source_kinds::is_converter;
+use crate::source_kinds::machine_admittance;
 use enclosure::add;
 use sweep::columns::Points;
 use sweep::columns::clamped;
@@ -111,18 +112,18 @@ pub(crate) fn standing_of(
         let p = sources[next];
         next += 1;
         let b = p.bus as usize;
-        if (b < BUSES) & (p.kind <= 3) {
-            let more = machine_admittance(tolerance, number_at(volts, b), p);
-            let total = add(point_at(&own_re, &own_im, b), more);
-            own_re[b] = total.re;
-            own_im[b] = total.im;
-        } else if (b < BUSES) & (p.kind == 4) {
+        if (b < BUSES) & is_converter(p) {
             let total = add(
                 point_at(&supplied_re, &supplied_im, b),
                 converter_current(p),
             );
             supplied_re[b] = total.re;
             supplied_im[b] = total.im;
+        } else if b < BUSES {
+            let more = machine_admittance(tolerance, number_at(volts, b), p);
+            let total = add(point_at(&own_re, &own_im, b), more);
+            own_re[b] = total.re;
+            own_im[b] = total.im;
         }
     }
     let own = Points {

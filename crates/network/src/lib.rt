@@ -21,6 +21,7 @@ mod figures;
 mod records;
 mod rows;
 mod source_grounds;
+mod source_kinds;
 
 use board::board_of;
 use bus_grounds::bus_record_number;

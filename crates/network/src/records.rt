@@ -1,20 +1,14 @@
-// What a record stands for in the tree: a branch's impedance and rated volts, a machine's admittance, a converter's current.
+// What a bus record stands for in the tree: its branch's impedance and rated volts.
 ghost use mathlib.Core.Path.{_≡_};
 ghost use mathlib.Core.Bool.{cond};
 ghost use Prim.Native.Nat.{min};
 ghost use lib.Dec.{eqb};
 ghost use Rattle.network.specs.declared.Bus.{Bus};
-ghost use Rattle.network.specs.Rounded.{branchBy, admittanceBy, suppliedBy};
+ghost use Rattle.network.specs.Rounded.{branchBy};
 use crate::Bus;
-use crate::Source;
-use elements::impedances::converter;
-use elements::impedances::feeder;
-use elements::impedances::generator;
 use elements::impedances::line;
-use elements::impedances::motor;
 use elements::impedances::transformer;
 use enclosure::Complex;
-use enclosure::inverse;
 use enclosure::nothing;
 
 // The lower of two nominal voltages.
@@ -48,24 +42,4 @@ pub(crate) fn rated_volts(kind: u32, volts: u32) -> u32
     ensures { λ r. ⌜ r ≡ cond (eqb kind 2) volts 1 ⌝ }
 {
     if kind == 2 { volts } else { 1 }
-}
-
-// The admittance of a feeder, generator or motor at a bus of these nominal volts.
-pub(crate) fn machine_admittance(tolerance: u32, volts: u32, p: Source) -> Complex
-    ensures { λ y. ⌜ y ≡ admittanceBy tolerance volts p ⌝ }
-{
-    let kind = p.kind;
-    match kind {
-        1 => inverse(feeder(tolerance, volts, p.f1, p.f2)),
-        2 => inverse(generator(tolerance, volts, p.f1, p.f2, p.f3, p.f4, p.f5)),
-        3 => inverse(motor(p.f1, p.f2, p.f3, p.f4)),
-        _ => nothing(),
-    }
-}
-
-// The current that a converter supplies.
-pub(crate) fn converter_current(p: Source) -> Complex
-    ensures { λ x. ⌜ x ≡ suppliedBy p ⌝ }
-{
-    converter(p.f1, p.f2)
 }

@@ -1,20 +1,21 @@
 -- `standing_of` adds up what stands at each bus. The invariant: both columns hold the sources so far.
-use mathlib.Core.Path.{_≡_, refl, _∙_, ap, ap₂}
-use mathlib.Core.Bool.{Bool, true, false, _&&_}
+use mathlib.Core.Path.{_≡_, refl, sym, _∙_, ap, ap₂}
+use mathlib.Core.Bool.{Bool, true, false, not, _&&_}
 use mathlib.Core.List.{List}
 use Prim.Native.Nat.{ℕ, _-_, _≤_, _<_}
-use lib.Dec.{ltb, leb}
+use lib.Dec.{ltb}
 use lib.Ieee.{Float}
 use lib.ListN.{length, take, length-take}
-use borrow.Author.Tests.{ltb-true, leb-true, ne-eqb}
+use borrow.Author.Tests.{ltb-true, lt-ltb, le-ltb}
 use Rattle.enclosure.specs.declared.Complex.{Complex}
 use Rattle.enclosure.specs.Doubles.{added}
 use Rattle.sweep.specs.Columns.{numberAt}
 use Rattle.network.specs.declared.Source.{Source}
 use Rattle.network.specs.Booleans.{both-true}
 use Rattle.network.specs.Network.{maxBuses, maxSources, sourceAt, blankSource}
-use Rattle.network.specs.Grid.{isMachine, isConverter}
-use Rattle.network.specs.Rounded.{admittanceBy, suppliedBy, standingOf}
+use Rattle.network.specs.SourceKinds.{isMachine, isConverter}
+use Rattle.network.specs.RoundedSourceKinds.{admittanceBy, suppliedBy}
+use Rattle.network.specs.Rounded.{standingOf}
 use Rattle.network.proofs.Filling.{Stands, stands-none, stands-more, stands-passed, stands-column}
 use Rattle.network.proofs.Lists.{length-mapped, read-counted}
 use native.Mathlib.Omega.{arith}
@@ -36,13 +37,17 @@ Machines tolerance volts l re im = Stands busOf isMachine (admittance tolerance 
 abbrev Converters : List Source → List Float → List Float → Type 0
 Converters l re im = Stands busOf isConverter suppliedBy blankSource l re im
 
--- a machine is no converter
-passed : (p : Source) → leb (p .kind) 3 ≡ true → ltb (p .bus) maxBuses && isConverter p ≡ false
-passed p e = let h = leb-true (p .kind) 3 e in rw (ne-eqb (p .kind) 4 (λ q. omega arith)) (go (ltb (p .bus) maxBuses))
+-- a converter is no machine, and past the last bus nothing stands
+converter-passed : (p : Source) → isConverter p ≡ true → ltb (p .bus) maxBuses && isMachine p ≡ false
+converter-passed p e = rw e (go (ltb (p .bus) maxBuses))
   where
     go : (t : Bool) → t && false ≡ false
     go true = refl
     go false = refl
+
+-- what is tested at a bus that is there
+there : (t u v : Bool) → u ≡ v → t && u ≡ false → t ≡ true → v ≡ false
+there t u v e h k = sym e ∙ rw k at h
 
 abbrev Inv-loop : tie.InvT-loop
 Inv-loop tolerance volts n sources own-re₀ own-im₀ supplied-re₀ supplied-im₀ m next₀ own-re own-im supplied-re supplied-im next =
@@ -78,82 +83,83 @@ add-next c = omega arith
 cast-b : tie.Need-cast-b Inv-loop μ-loop
 cast-b c = search needs
 
-number-at-requires : tie.Need-number-at-requires Inv-loop μ-loop
-number-at-requires c κs = search needs
-
-machine-admittance-requires : tie.Need-machine-admittance-requires Inv-loop μ-loop
-machine-admittance-requires c κs = search needs
+is-converter-requires : tie.Need-is-converter-requires Inv-loop μ-loop
+is-converter-requires c κs = search needs
 
 point-at-requires : tie.Need-point-at-requires Inv-loop μ-loop
 point-at-requires c κs = search needs
 
+converter-current-requires : tie.Need-converter-current-requires Inv-loop μ-loop
+converter-current-requires c κs = search needs
+
 add-requires : tie.Need-add-requires Inv-loop μ-loop
 add-requires c κs = search needs
 
-mul-own-re : tie.Need-mul-own-re Inv-loop μ-loop
-mul-own-re c = omega arith
+mul-supplied-re : tie.Need-mul-supplied-re Inv-loop μ-loop
+mul-supplied-re c = omega arith
 
-array-write-own-re : tie.Need-array-write-own-re Inv-loop μ-loop
-array-write-own-re c = ltb-true _ maxBuses (both-true _ _ (c .before .before .before .before .before .before .if1 .taken) .0)
+array-write-supplied-re : tie.Need-array-write-supplied-re Inv-loop μ-loop
+array-write-supplied-re c = ltb-true _ maxBuses (both-true _ _ (c .before .before .before .before .before .if1 .taken) .0)
 
-mul-own-im : tie.Need-mul-own-im Inv-loop μ-loop
-mul-own-im c = omega arith
+mul-supplied-im : tie.Need-mul-supplied-im Inv-loop μ-loop
+mul-supplied-im c = omega arith
 
-array-write-own-im : tie.Need-array-write-own-im Inv-loop μ-loop
-array-write-own-im c = ltb-true _ maxBuses (both-true _ _ (c .before .before .before .before .before .before .if1 .taken) .0)
+array-write-supplied-im : tie.Need-array-write-supplied-im Inv-loop μ-loop
+array-write-supplied-im c = ltb-true _ maxBuses (both-true _ _ (c .before .before .before .before .before .if1 .taken) .0)
 
 loop-less : tie.Need-loop-less Inv-loop μ-loop
 loop-less c = omega arith
 
 loop-again : tie.Need-loop-again Inv-loop μ-loop
 loop-again c =
-    let i = c .before .before .before .before .before .before in
-    let l = c .before .before .before .before .before .before .before .before .before .before .before .loop in
-    let o = c .before .before .before .before .before .before .before .before .before .before .before .before .before in
+    let l = c .before .before .before .before .before .before .before .before .before .before .loop in
+    let o = c .before .before .before .before .before .before .before .before .before .before .before .before in
     let a = o .args in
     let p = sourceAt (a .t3) (l .next) in
     let k = take (a .n) (a .t3) in
     let h = whole o in
-    let m = inside (c .before .before .before .before .before .before .before .before .before .before) in
+    let m = inside (c .before .before .before .before .before .before .before .before .before) in
     let e = read-counted maxSources (a .n) (a .t3) h (l .next) blankSource m in
-    let q = both-true _ _ (i .if1 .taken) in
     let g = admittance (a .tolerance) (a .volts .now) in
-    let y = c .before .before .before .before .machine-admittance .ensures ∙ ap (λ (v : ℕ). admittanceBy (a .tolerance) v p) (c .before .before .before .before .before .number-at .ensures) in (
-      omega (arith, c .before .before .before .before .before .before .before .before .before .before .loop-test .taken),
+    let q = both-true (ltb (p .bus) maxBuses) (c .before .before .before .before .before .before .is-converter .result) (c .before .before .before .before .before .if1 .taken) in
+    let s : isConverter p ≡ true = sym (c .before .before .before .before .before .before .is-converter .ensures) ∙ q .1 in (
+      omega (arith, c .before .before .before .before .before .before .before .before .before .loop-test .taken),
       (
-        stands-more busOf isMachine g blankSource k (l .own-re) (l .own-im) (l .next) p m e (l .inv .1 .0) (c .add .result) (ltb-true _ maxBuses (q .0)) (q .1) (c .add .ensures ∙ ap₂ added (c .before .point-at .ensures) y),
-        stands-passed busOf isConverter suppliedBy blankSource k (l .supplied-re) (l .supplied-im) (l .next) p m e (l .inv .1 .1) (passed p (q .1)),
+        stands-passed busOf isMachine g blankSource k (l .own-re) (l .own-im) (l .next) p m e (l .inv .1 .0) (converter-passed p s),
+        stands-more busOf isConverter suppliedBy blankSource k (l .supplied-re) (l .supplied-im) (l .next) p m e (l .inv .1 .1) (c .add .result) (ltb-true _ maxBuses (q .0)) s
+            (c .add .ensures ∙ ap₂ added (c .before .before .point-at .ensures) (c .before .converter-current .ensures)),
       ),
     )
+
+number-at-requires : tie.Need-number-at-requires Inv-loop μ-loop
+number-at-requires c κs = search needs
+
+machine-admittance-requires : tie.Need-machine-admittance-requires Inv-loop μ-loop
+machine-admittance-requires c κs = search needs
 
 point-at-requires-2 : tie.Need-point-at-requires-2 Inv-loop μ-loop
 point-at-requires-2 c κs = search needs
 
-converter-current-requires : tie.Need-converter-current-requires Inv-loop μ-loop
-converter-current-requires c κs = search needs
-
 add-requires-2 : tie.Need-add-requires-2 Inv-loop μ-loop
 add-requires-2 c κs = search needs
 
-mul-supplied-re : tie.Need-mul-supplied-re Inv-loop μ-loop
-mul-supplied-re c = omega arith
+mul-own-re : tie.Need-mul-own-re Inv-loop μ-loop
+mul-own-re c = omega arith
 
-array-write-supplied-re : tie.Need-array-write-supplied-re Inv-loop μ-loop
-array-write-supplied-re c = ltb-true _ maxBuses (both-true _ _ (c .before .before .before .before .before .if2 .taken) .0)
+array-write-own-re : tie.Need-array-write-own-re Inv-loop μ-loop
+array-write-own-re c = c .before .before .before .before .before .before .if2 .taken
 
-mul-supplied-im : tie.Need-mul-supplied-im Inv-loop μ-loop
-mul-supplied-im c = omega arith
+mul-own-im : tie.Need-mul-own-im Inv-loop μ-loop
+mul-own-im c = omega arith
 
-array-write-supplied-im : tie.Need-array-write-supplied-im Inv-loop μ-loop
-array-write-supplied-im c = ltb-true _ maxBuses (both-true _ _ (c .before .before .before .before .before .if2 .taken) .0)
+array-write-own-im : tie.Need-array-write-own-im Inv-loop μ-loop
+array-write-own-im c = c .before .before .before .before .before .before .if2 .taken
 
 loop-less-2 : tie.Need-loop-less-2 Inv-loop μ-loop
 loop-less-2 c = omega arith
 
 loop-again-2 : tie.Need-loop-again-2 Inv-loop μ-loop
 loop-again-2 c =
-    let i = c .before .before .before .before .before in
-    let j = c .before .before .before .before .before .before .before in
     let l = c .before .before .before .before .before .before .before .before .before .before .before .before .loop in
     let o = c .before .before .before .before .before .before .before .before .before .before .before .before .before .before in
     let a = o .args in
@@ -162,13 +168,14 @@ loop-again-2 c =
     let h = whole o in
     let m = inside (c .before .before .before .before .before .before .before .before .before .before .before) in
     let e = read-counted maxSources (a .n) (a .t3) h (l .next) blankSource m in
-    let q = both-true _ _ (i .if2 .taken) in
-    let g = admittance (a .tolerance) (a .volts .now) in (
+    let g = admittance (a .tolerance) (a .volts .now) in
+    let q = c .before .before .before .before .before .before .if2 .taken in
+    let s = there (ltb (p .bus) maxBuses) _ (isConverter p) (c .before .before .before .before .before .before .before .before .is-converter .ensures) (c .before .before .before .before .before .before .before .if1 .left) (lt-ltb (p .bus) maxBuses q) in
+    let y = c .before .before .before .before .machine-admittance .ensures ∙ ap (λ (v : ℕ). admittanceBy (a .tolerance) v p) (c .before .before .before .before .before .number-at .ensures) in (
       omega (arith, c .before .before .before .before .before .before .before .before .before .before .before .loop-test .taken),
       (
-        stands-passed busOf isMachine g blankSource k (l .own-re) (l .own-im) (l .next) p m e (l .inv .1 .0) (j .if1 .left),
-        stands-more busOf isConverter suppliedBy blankSource k (l .supplied-re) (l .supplied-im) (l .next) p m e (l .inv .1 .1) (c .add2 .result) (ltb-true _ maxBuses (q .0)) (q .1)
-            (c .add2 .ensures ∙ ap₂ added (c .before .before .point-at2 .ensures) (c .before .converter-current .ensures)),
+        stands-more busOf isMachine g blankSource k (l .own-re) (l .own-im) (l .next) p m e (l .inv .1 .0) (c .add2 .result) q (ap not s) (c .add2 .ensures ∙ ap₂ added (c .before .point-at2 .ensures) y),
+        stands-passed busOf isConverter suppliedBy blankSource k (l .supplied-re) (l .supplied-im) (l .next) p m e (l .inv .1 .1) (rw (lt-ltb (p .bus) maxBuses q, s)),
       ),
     )
 
@@ -177,20 +184,20 @@ loop-less-3 c = omega arith
 
 loop-again-3 : tie.Need-loop-again-3 Inv-loop μ-loop
 loop-again-3 c =
-    let j = c .before .before in
-    let l = c .before .before .before .before .before .before .before .loop in
-    let o = c .before .before .before .before .before .before .before .before .before in
+    let l = c .before .before .before .before .before .before .loop in
+    let o = c .before .before .before .before .before .before .before .before in
     let a = o .args in
     let p = sourceAt (a .t3) (l .next) in
     let k = take (a .n) (a .t3) in
     let h = whole o in
-    let m = inside (c .before .before .before .before .before .before) in
+    let m = inside (c .before .before .before .before .before) in
     let e = read-counted maxSources (a .n) (a .t3) h (l .next) blankSource m in
-    let g = admittance (a .tolerance) (a .volts .now) in (
-      omega (arith, c .before .before .before .before .before .before .loop-test .taken),
+    let g = admittance (a .tolerance) (a .volts .now) in
+    let q = le-ltb (p .bus) maxBuses (c .if2 .left) in (
+      omega (arith, c .before .before .before .before .before .loop-test .taken),
       (
-        stands-passed busOf isMachine g blankSource k (l .own-re) (l .own-im) (l .next) p m e (l .inv .1 .0) (j .if1 .left),
-        stands-passed busOf isConverter suppliedBy blankSource k (l .supplied-re) (l .supplied-im) (l .next) p m e (l .inv .1 .1) (c .if2 .left),
+        stands-passed busOf isMachine g blankSource k (l .own-re) (l .own-im) (l .next) p m e (l .inv .1 .0) (rw q),
+        stands-passed busOf isConverter suppliedBy blankSource k (l .supplied-re) (l .supplied-im) (l .next) p m e (l .inv .1 .1) (rw q),
       ),
     )
 
@@ -215,23 +222,24 @@ standing-of-spec =
     array-copy-out-p
     add-next
     cast-b
-    number-at-requires
-    machine-admittance-requires
+    is-converter-requires
     point-at-requires
-    add-requires
-    mul-own-re
-    array-write-own-re
-    mul-own-im
-    array-write-own-im
-    loop-less
-    loop-again
-    point-at-requires-2
     converter-current-requires
-    add-requires-2
+    add-requires
     mul-supplied-re
     array-write-supplied-re
     mul-supplied-im
     array-write-supplied-im
+    loop-less
+    loop-again
+    number-at-requires
+    machine-admittance-requires
+    point-at-requires-2
+    add-requires-2
+    mul-own-re
+    array-write-own-re
+    mul-own-im
+    array-write-own-im
     loop-less-2
     loop-again-2
     loop-less-3

@@ -1,9 +1,9 @@
 -- `fields_ok` meets its contract, kind by kind.
 use borrow.Author.Tests.{ne-eqb}
-use Rattle.network.specs.Records.{fieldsOk}
+use Rattle.network.specs.SourceKinds.{fieldsOk}
 use borrow.Author.Needs.{needs}
-use Rattle.network.proofs.source_grounds.fields_ok.Statement.{statement}
-use Rattle.network.proofs.source_grounds.fields_ok.Tie as tie
+use Rattle.network.proofs.source_kinds.fields_ok.Statement.{statement}
+use Rattle.network.proofs.source_kinds.fields_ok.Tie as tie
 
 feeder-ok-requires : tie.Need-feeder-ok-requires
 feeder-ok-requires c κs = search needs

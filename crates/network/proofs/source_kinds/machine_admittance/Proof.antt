@@ -1,8 +1,8 @@
 use borrow.Author.Tests.{ne-eqb}
-use Rattle.network.specs.Rounded.{admittanceBy}
+use Rattle.network.specs.RoundedSourceKinds.{admittanceBy}
 use borrow.Author.Needs.{needs}
-use Rattle.network.proofs.records.machine_admittance.Statement.{statement}
-use Rattle.network.proofs.records.machine_admittance.Tie as tie
+use Rattle.network.proofs.source_kinds.machine_admittance.Statement.{statement}
+use Rattle.network.proofs.source_kinds.machine_admittance.Tie as tie
 
 feeder-requires : tie.Need-feeder-requires
 feeder-requires c κs = search needs

@@ -1,0 +1,26 @@
+-- What the kind of a source decides (SourceKinds), in f64 as the code calculates it: a machine's admittance, a converter's current.
+use Prim.Native.Nat.{ℕ}
+use Rattle.enclosure.specs.declared.Complex.{Complex}
+use Rattle.enclosure.specs.Doubles.{none, inverted}
+use Rattle.elements.specs.Rounded.{feederBy, generatorBy, motorBy, converterBy}
+use Rattle.network.specs.declared.Source.{Source}
+use Rattle.network.specs.SourceKinds.{byKind}
+
+-- the impedance of each kind, by the tolerance of the study and Un of the source's bus
+abbrev pub feederImpedanceBy : ℕ → ℕ → Source → Complex
+feederImpedanceBy tolerance Un p = feederBy tolerance Un (p .f1) (p .f2)
+
+abbrev pub generatorImpedanceBy : ℕ → ℕ → Source → Complex
+generatorImpedanceBy tolerance Un p = generatorBy tolerance Un (p .f1) (p .f2) (p .f3) (p .f4) (p .f5)
+
+abbrev pub motorImpedanceBy : Source → Complex
+motorImpedanceBy p = motorBy (p .f1) (p .f2) (p .f3) (p .f4)
+
+-- a machine's admittance
+unfoldable pub admittanceBy : ℕ → ℕ → Source → Complex
+admittanceBy tolerance Un p =
+    byKind p (inverted (feederImpedanceBy tolerance Un p)) (inverted (generatorImpedanceBy tolerance Un p)) (inverted (motorImpedanceBy p)) none
+
+-- a converter's current
+abbrev pub suppliedBy : Source → Complex
+suppliedBy p = converterBy (p .f1) (p .f2)

@@ -1,0 +1,115 @@
+// What the kind of a source decides: the ranges of its fields, its rated volts, its admittance or its current. Every other module asks
+// here.
+ghost use mathlib.Core.Path.{_≡_};
+ghost use Rattle.network.specs.Records.{all};
+ghost use Rattle.network.specs.SourceKinds.{isFeeder, isConverter, sourceKindOk, feederTests, generatorTests, motorTests, converterTests, fieldsOk, isRated, machineVolts};
+ghost use Rattle.network.specs.RoundedSourceKinds.{admittanceBy, suppliedBy};
+use crate::Source;
+use elements::impedances::converter;
+use elements::impedances::feeder;
+use elements::impedances::generator;
+use elements::impedances::motor;
+use enclosure::Complex;
+use enclosure::inverse;
+use enclosure::nothing;
+
+pub(crate) fn is_feeder(p: Source) -> bool
+    ensures { λ r. ⌜ r ≡ isFeeder p ⌝ }
+{
+    p.kind == 1
+}
+
+pub(crate) fn is_converter(p: Source) -> bool
+    ensures { λ r. ⌜ r ≡ isConverter p ⌝ }
+{
+    p.kind == 4
+}
+
+// Whether it is a machine that has rated volts: a generator or a motor.
+pub(crate) fn is_rated(p: Source) -> bool
+    ensures { λ r. ⌜ r ≡ isRated p ⌝ }
+{
+    (p.kind == 2) | (p.kind == 3)
+}
+
+// The rated volts of such a machine.
+pub(crate) fn machine_volts(p: Source) -> u32
+    ensures { λ r. ⌜ r ≡ machineVolts p ⌝ }
+{
+    p.f1
+}
+
+// Ground 10: source kind.
+pub(crate) fn kind_ok(p: Source) -> bool
+    ensures { λ r. ⌜ r ≡ sourceKindOk p ⌝ }
+{
+    (1 <= p.kind) & (p.kind <= 4)
+}
+
+// Ground 12 of a feeder: kVA, R/X, 0, 0, 0.
+fn feeder_ok(p: Source) -> bool
+    ensures { λ r. ⌜ r ≡ all (feederTests p) ⌝ }
+{
+    ((1000 <= p.f1) & (p.f1 <= 100000000)) & (p.f2 <= 200) & (p.f3 == 0) & (p.f4 == 0) & (p.f5 == 0)
+}
+
+// Ground 12 of a generator: kVA, xd, R/X, power factor. Its rated volts have ground 13.
+fn generator_ok(p: Source) -> bool
+    ensures { λ r. ⌜ r ≡ all (generatorTests p) ⌝ }
+{
+    ((10 <= p.f2) & (p.f2 <= 1000000))
+        & ((1000 <= p.f3) & (p.f3 <= 100000))
+        & (p.f4 <= 200)
+        & ((70 <= p.f5) & (p.f5 <= 100))
+}
+
+// Ground 12 of a motor: kVA, starting ratio, R/X, 0. Its rated volts have ground 13.
+fn motor_ok(p: Source) -> bool
+    ensures { λ r. ⌜ r ≡ all (motorTests p) ⌝ }
+{
+    ((1 <= p.f2) & (p.f2 <= 100000)) & ((10 <= p.f3) & (p.f3 <= 100)) & (p.f4 <= 200) & (p.f5 == 0)
+}
+
+// Ground 12 of a converter: rated current, k, 0, 0, 0.
+fn converter_ok(p: Source) -> bool
+    ensures { λ r. ⌜ r ≡ all (converterTests p) ⌝ }
+{
+    ((1 <= p.f1) & (p.f1 <= 100000))
+        & ((100 <= p.f2) & (p.f2 <= 300))
+        & (p.f3 == 0)
+        & (p.f4 == 0)
+        & (p.f5 == 0)
+}
+
+// Ground 12: the five fields, by the kind.
+pub(crate) fn fields_ok(p: Source) -> bool
+    ensures { λ r. ⌜ r ≡ fieldsOk p ⌝ }
+{
+    let kind = p.kind;
+    match kind {
+        1 => feeder_ok(p),
+        2 => generator_ok(p),
+        3 => motor_ok(p),
+        _ => converter_ok(p),
+    }
+}
+
+// The admittance of a machine at a bus of these nominal volts.
+pub(crate) fn machine_admittance(tolerance: u32, volts: u32, p: Source) -> Complex
+    ensures { λ y. ⌜ y ≡ admittanceBy tolerance volts p ⌝ }
+{
+    let kind = p.kind;
+    match kind {
+        1 => inverse(feeder(tolerance, volts, p.f1, p.f2)),
+        2 => inverse(generator(tolerance, volts, p.f1, p.f2, p.f3, p.f4, p.f5)),
+        3 => inverse(motor(p.f1, p.f2, p.f3, p.f4)),
+        _ => nothing(),
+    }
+}
+
+// The current that a converter supplies.
+pub(crate) fn converter_current(p: Source) -> Complex
+    ensures { λ x. ⌜ x ≡ suppliedBy p ⌝ }
+{
+    converter(p.f1, p.f2)
+}
