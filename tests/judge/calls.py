@@ -1,8 +1,9 @@
 """Lists of single calls, fixed and drawn, with refused ones among them.
 
 A call is a tuple: ("start", tolerance), ("bus", ten numbers), ("source", seven
-numbers), ("close",), ("query", bus), ("write", room), ("read", bytes) or
-("other", line), the last for a line that is no call at all.
+numbers), ("close",), ("query", bus), ("write", room), ("read", bytes), ("read
+capitals", bytes), the same in capital digits, or ("other", line) for a line that
+is no call at all.
 """
 
 from networks import amount, any_network, random_tree
@@ -46,6 +47,18 @@ NO_CALLS = [
     "read,0g",
     "Start,6",
     "S,6",
+    # a word with another byte in the place of its comma
+    "start;6",
+    "bus;0,20000,0,0,0,0,0,0,1,1",
+    "source 1,0,1000,0,0,0,0",
+    "close,",
+    "close;",
+    "query;0",
+    "write;5",
+    "read;" + SMALL.hex(),
+    # the bytes beside 0 to 9, A to F and a to f, in either place of a pair
+    *[f"read,{byte}3" for byte in "/:@G`g"],
+    *[f"read,3{byte}" for byte in "/:@G`g"],
 ]
 
 
@@ -65,6 +78,8 @@ def line_of(call):
         return rest[0]
     if name == "read":
         return "read," + rest[0].hex()
+    if name == "read capitals":
+        return "read," + rest[0].hex().upper()
     if name in ("bus", "source"):
         rest = rest[0]
     return ",".join([name, *map(str, rest)])
@@ -79,6 +94,7 @@ def carried_out(study, call):
         "source": study.add_source,
         "close": study.close,
         "read": study.read,
+        "read capitals": study.read,
     }
     *given, after = methods[name](*rest)
     return given, after
@@ -123,6 +139,7 @@ def files_between():
     found = [("start", 10), ("read", TEXT), *queries(3), ("close",), *as_calls(BASE), *queries(3)]
     found += [("start", 10), ("bus", BASE[0][1]), ("read", SMALL), *queries(1)]
     found += [("read", SMALL + b"x"), ("query", 0), ("close",), *BUILD_LOW]
+    found += [("read capitals", TEXT), *queries(3), ("read capitals", SMALL + b"x"), ("query", 0)]
     found += [("read", TEXT.replace(b"S,6", b"S,10")), *queries(3), ("read", TEXT), *queries(3)]
     return found
 

@@ -5,6 +5,12 @@ ghost use Prim.Native.Nat.{_≤_};
 ghost use lib.ListN.{length, take};
 ghost use Rattle.printing.specs.Line.{room};
 ghost use Rattle.console.specs.Answers.{errorLine, numberLine, readingLine, foundLine};
+ghost use Rattle.console.specs.Effects.{reasonText};
+use crate::hex::TEXT;
+use crate::hex::text_of;
+use crate::parts::print_written;
+use crate::turns::Reason;
+use crate::turns::Reply;
 use libc::STDOUT_FILENO;
 use network::Found;
 use printing::LINE;
@@ -25,6 +31,20 @@ fn put_error(line: &mut [u8; LINE], reason: &[u8]) -> usize
     let word = put(line, 0, b"error,");
     let at = put(line, word, reason);
     put(line, at, b"\n")
+}
+
+fn put_reason(line: &mut [u8; LINE], reason: Reason) -> usize
+    requires { ⌜ length (now line) ≡ room ⌝ }
+    ensures { λ r. ⌜ take r (now (line .exit)) ≡ errorLine (reasonText reason) ⌝ }
+{
+    match reason {
+        Reason::Fields => put_error(line, b"fields"),
+        Reason::Number => put_error(line, b"number"),
+        Reason::Hex => put_error(line, b"hex"),
+        Reason::Room => put_error(line, b"room"),
+        Reason::Unknown => put_error(line, b"unknown call"),
+        Reason::Long => put_error(line, b"line too long"),
+    }
 }
 
 fn put_ground(line: &mut [u8; LINE], number: u32) -> usize
@@ -56,28 +76,37 @@ fn put_found(line: &mut [u8; LINE], found: Found) -> usize
     put(line, at, b"\n")
 }
 
-pub(crate) fn print_error(reason: &[u8])
-    requires { ⌜ length (now reason) ≤ 200 ⌝ }
-{
+fn print_error(reason: Reason) {
     let mut line = [0u8; LINE];
-    let end = put_error(&mut line, reason);
+    let end = put_reason(&mut line, reason);
     io::write_all(STDOUT_FILENO, written(&line, end));
 }
 
-pub(crate) fn print_number(number: u32) {
+fn print_number(number: u32) {
     let mut line = [0u8; LINE];
     let end = put_ground(&mut line, number);
     io::write_all(STDOUT_FILENO, written(&line, end));
 }
 
-pub(crate) fn print_reading(number: u32, row: u32) {
+fn print_reading(number: u32, row: u32) {
     let mut line = [0u8; LINE];
     let end = put_reading(&mut line, number, row);
     io::write_all(STDOUT_FILENO, written(&line, end));
 }
 
-pub(crate) fn print_found(found: Found) {
+fn print_found(found: Found) {
     let mut line = [0u8; LINE];
     let end = put_found(&mut line, found);
     io::write_all(STDOUT_FILENO, written(&line, end));
+}
+
+// Writes the reply; of a writing it ends with the bytes that were lent.
+pub(crate) fn print_reply(reply: Reply, text: &[u8; TEXT]) {
+    match reply {
+        Reply::Ground(number) => print_number(number),
+        Reply::Reading(number, row) => print_reading(number, row),
+        Reply::Found(found) => print_found(found),
+        Reply::Written(number, size, count) => print_written(number, size, text_of(text, count)),
+        Reply::Error(reason) => print_error(reason),
+    }
 }

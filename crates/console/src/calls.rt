@@ -1,19 +1,22 @@
-// The calls. Each takes the study, what stands after its word, and gives the study after it.
+// The calls. Each takes the study and what stands after its word, and makes a turn. Where a text is lent, its length is a hypothesis: of an
+// array behind a reference the prover does not know it by itself.
 ghost use mathlib.Core.Path.{_≡_};
+ghost use Prim.Native.Nat.{ℕ};
+ghost use mathlib.Core.List.{List};
 ghost use lib.ListN.{length, replicate};
-ghost use Rattle.network.specs.Grounds.{afterClose};
 ghost use Rattle.network.specs.Network.{network};
-ghost use Rattle.writer.specs.Writing.{afterWrite};
+ghost use Rattle.writer.specs.Writing.{writeNumber, writeLength, afterWrite};
 ghost use Rattle.console.specs.Answers.{filler};
-use crate::answers::print_error;
-use crate::answers::print_found;
-use crate::answers::print_number;
-use crate::answers::print_reading;
+ghost use Rattle.console.specs.Effects.{effectOf, counted, reasonOf, startEffect, busEffect, sourceEffect, closeEffect, queryEffect, readEffect, writeEffect, callEffect};
 use crate::hex::Decoded;
 use crate::hex::TEXT;
 use crate::hex::decode;
 use crate::hex::text_of;
-use crate::parts::print_written;
+use crate::turns::Reason;
+use crate::turns::Reply;
+use crate::turns::Turn;
+use crate::turns::answered;
+use crate::turns::failed;
 use crate::words::after;
 use crate::words::begins;
 use crate::words::is;
@@ -24,86 +27,93 @@ use reader::SOURCE_FIELDS;
 use reader::bus_of;
 use reader::numbers_of;
 use reader::source_of;
+use writer::Written;
 
-// Whether these are so many numbers; says what is wrong where they are not. An eleventh field is one too many, whatever it says.
-fn takes(n: Numbers, wanted: usize) -> bool {
-    if n.ok {
-        if n.count == wanted {
-            return true;
-        }
-        print_error(b"fields");
-        return false;
-    }
-    if n.count == BUS_FIELDS {
-        print_error(b"fields");
-    } else {
-        print_error(b"number");
-    }
-    false
+// Whether these are so many numbers.
+fn takes(n: Numbers, wanted: usize) -> bool
+    ensures { λ r. ⌜ r ≡ counted n wanted ⌝ }
+{
+    n.ok & (n.count == wanted)
 }
 
-fn make_start(s: Study, rest: &[u8]) -> Study {
+// What is wrong where they are not. An eleventh field is one too many, whatever it says.
+fn reason_of(n: Numbers) -> Reason
+    ensures { λ r. ⌜ r ≡ reasonOf n ⌝ }
+{
+    if n.ok | (n.count == BUS_FIELDS) {
+        return Reason::Fields;
+    }
+    Reason::Number
+}
+
+fn make_start(s: Study, rest: &[u8]) -> Turn
+    ensures { λ r. ⌜ ((text : List ℕ) → effectOf text r ≡ startEffect (network s) (now (rest .entry))) ⌝ }
+{
     let n = numbers_of(rest);
     let v = n.values;
     if takes(n, 1) {
-        let done = network::start(v[0]);
-        print_number(done.number);
-        return done.study;
+        return answered(network::start(v[0]));
     }
-    s
+    failed(s, reason_of(n))
 }
 
-fn make_bus(s: Study, rest: &[u8]) -> Study {
+fn make_bus(s: Study, rest: &[u8]) -> Turn
+    ensures { λ r. ⌜ ((text : List ℕ) → effectOf text r ≡ busEffect (network s) (now (rest .entry))) ⌝ }
+{
     let n = numbers_of(rest);
     let v = n.values;
     if takes(n, BUS_FIELDS) {
-        let done = network::add_bus(s, bus_of(v));
-        print_number(done.number);
-        return done.study;
+        return answered(network::add_bus(s, bus_of(v)));
     }
-    s
+    failed(s, reason_of(n))
 }
 
-fn make_source(s: Study, rest: &[u8]) -> Study {
+fn make_source(s: Study, rest: &[u8]) -> Turn
+    ensures { λ r. ⌜ ((text : List ℕ) → effectOf text r ≡ sourceEffect (network s) (now (rest .entry))) ⌝ }
+{
     let n = numbers_of(rest);
     let v = n.values;
     if takes(n, SOURCE_FIELDS) {
-        let done = network::add_source(s, source_of(v));
-        print_number(done.number);
-        return done.study;
+        return answered(network::add_source(s, source_of(v)));
     }
-    s
+    failed(s, reason_of(n))
 }
 
-fn make_close(s: Study) -> Study
-    ensures { λ r. ⌜ network r ≡ afterClose (network s) ⌝ }
+fn make_close(s: Study) -> Turn
+    ensures { λ r. ⌜ ((text : List ℕ) → effectOf text r ≡ closeEffect (network s)) ⌝ }
 {
-    let done = network::close(s);
-    print_number(done.number);
-    done.study
+    answered(network::close(s))
 }
 
-fn make_query(s: Study, rest: &[u8]) -> Study
-    ensures { λ r. ⌜ r ≡ s ⌝ }
+fn make_query(s: Study, rest: &[u8]) -> Turn
+    ensures study { λ r. ⌜ r .study ≡ s ⌝ }
+    ensures effect { λ r. ⌜ ((text : List ℕ) → effectOf text r ≡ queryEffect (network s) (now (rest .entry))) ⌝ }
 {
     let n = numbers_of(rest);
     let v = n.values;
     if takes(n, 1) {
         let found = network::query(s, v[0]);
-        print_found(found);
+        return Turn {
+            reply: Reply::Found(found),
+            study: s,
+        };
     }
-    s
+    failed(s, reason_of(n))
 }
 
-fn make_read(s: Study, rest: &[u8], text: &mut [u8; TEXT]) -> Study {
+fn make_read(s: Study, rest: &[u8], text: &mut [u8; TEXT]) -> Turn
+    ensures { λ r. ⌜ (length (now (text .entry)) ≡ 70000 → effectOf (now (text .exit)) r ≡ readEffect (network s) (now (rest .entry))) ⌝ }
+{
     let decoded = decode(rest, text);
     let Decoded::Bytes(n) = decoded else {
-        print_error(b"hex");
-        return s;
+        return failed(s, Reason::Hex);
     };
     let reading = reader::read(text_of(text, n));
-    print_reading(reading.number, reading.row);
-    reading.study
+    let study = reading.study;
+    Turn {
+        reply: Reply::Reading(reading.number, reading.row),
+        study,
+    }
 }
 
 // Gives each lent byte one value, so that the bytes that the call keeps are seen to be kept.
@@ -117,33 +127,40 @@ fn fill(lent: &mut [u8])
     }
 }
 
-// All lent bytes are printed, so that those that the call keeps are seen too.
-fn write_into(s: Study, lent: &mut [u8])
-    ensures { λ _. ⌜ now (lent .exit) ≡ afterWrite (network s) (replicate (length (now (lent .entry))) filler) ⌝ }
+fn write_into(s: Study, lent: &mut [u8]) -> Written
+    ensures number { λ r. ⌜ r .number ≡ writeNumber (network s) (length (now (lent .entry))) ⌝ }
+    ensures length { λ r. ⌜ r .length ≡ writeLength (network s) (length (now (lent .entry))) ⌝ }
+    ensures lent { λ _. ⌜ now (lent .exit) ≡ afterWrite (network s) (replicate (length (now (lent .entry))) filler) ⌝ }
 {
     fill(lent);
-    let done = writer::write(s, lent);
-    print_written(done.number, done.length, lent);
+    writer::write(s, lent)
 }
 
-fn make_write(s: Study, rest: &[u8], text: &mut [u8]) -> Study
-    ensures { λ r. ⌜ r ≡ s ⌝ }
+// All lent bytes are answered, so that those that the call keeps are seen too.
+fn make_write(s: Study, rest: &[u8], text: &mut [u8]) -> Turn
+    ensures study { λ r. ⌜ r .study ≡ s ⌝ }
+    ensures effect { λ r. ⌜ (length (now (text .entry)) ≡ 70000 → effectOf (now (text .exit)) r ≡ writeEffect (network s) (now (rest .entry))) ⌝ }
 {
     let n = numbers_of(rest);
     let v = n.values;
     if takes(n, 1) {
         let count = v[0] as usize;
         if count <= text.len() {
-            write_into(s, &mut text[0..count]);
-        } else {
-            print_error(b"room");
+            let done = write_into(s, &mut text[0..count]);
+            return Turn {
+                reply: Reply::Written(done.number, done.length, count),
+                study: s,
+            };
         }
+        return failed(s, Reason::Room);
     }
-    s
+    failed(s, reason_of(n))
 }
 
-// The study after the call that a line names.
-pub(crate) fn make_call(s: Study, line: &[u8], text: &mut [u8; TEXT]) -> Study {
+// The turn of the call that a line names.
+pub(crate) fn make_call(s: Study, line: &[u8], text: &mut [u8; TEXT]) -> Turn
+    ensures { λ r. ⌜ (length (now (text .entry)) ≡ 70000 → effectOf (now (text .exit)) r ≡ callEffect (network s) (now (line .entry))) ⌝ }
+{
     if begins(line, b"start,") {
         return make_start(s, after(line, 6));
     }
@@ -165,6 +182,5 @@ pub(crate) fn make_call(s: Study, line: &[u8], text: &mut [u8; TEXT]) -> Study {
     if begins(line, b"write,") {
         return make_write(s, after(line, 6), text);
     }
-    print_error(b"unknown call");
-    s
+    failed(s, Reason::Unknown)
 }

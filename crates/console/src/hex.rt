@@ -82,8 +82,10 @@ pub(crate) fn decode(digits: &[u8], text: &mut [u8; TEXT]) -> Decoded
 }
 
 // The bytes of the text.
-pub(crate) fn text_of(text: &[u8; TEXT], length: usize) -> &[u8] {
-    part(text, length)
+pub(crate) fn text_of(text: &[u8; TEXT], size: usize) -> &[u8]
+    ensures { λ r. ⌜ now r ≡ take size (now (text .entry)) ⌝ }
+{
+    part(text, size)
 }
 
 // The digit of half a byte.

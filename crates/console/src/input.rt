@@ -122,6 +122,8 @@ pub(crate) fn part(bytes: &[u8], length: usize) -> &[u8]
 }
 
 // The bytes of the line.
-pub(crate) fn bytes_of(line: &[u8; LINE_ROOM], length: usize) -> &[u8] {
+pub(crate) fn bytes_of(line: &[u8; LINE_ROOM], length: usize) -> &[u8]
+    ensures { λ r. ⌜ now r ≡ take length (now (line .entry)) ⌝ }
+{
     part(line, length)
 }

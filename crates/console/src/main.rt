@@ -4,24 +4,33 @@ mod calls;
 mod hex;
 mod input;
 mod parts;
+mod turns;
 mod words;
 
-use answers::print_error;
+ghost use mathlib.Core.Path.{_≡_};
+ghost use lib.ListN.{length};
+ghost use Rattle.network.specs.Network.{network};
+ghost use Rattle.console.specs.Effects.{effectOf, lineEffect};
+use answers::print_reply;
 use calls::make_call;
 use input::Cursor;
 use input::LINE_ROOM;
 use input::bytes_of;
 use input::read_line;
 use network::Study;
+use turns::Reason;
+use turns::Turn;
+use turns::failed;
 
 // The most bytes of a line.
 const LINE_BYTES: usize = 140_000;
 
-// The study after a line.
-fn answer(s: Study, line: &[u8], text: &mut [u8; hex::TEXT]) -> Study {
+// The turn of a line.
+fn answer(s: Study, line: &[u8], text: &mut [u8; hex::TEXT]) -> Turn
+    ensures { λ r. ⌜ (length (now (text .entry)) ≡ 70000 → effectOf (now (text .exit)) r ≡ lineEffect (network s) (now (line .entry))) ⌝ }
+{
     if LINE_BYTES < line.len() {
-        print_error(b"line too long");
-        return s;
+        return failed(s, Reason::Long);
     }
     make_call(s, line, text)
 }
@@ -41,6 +50,9 @@ fn main() {
             return;
         }
         cursor = got.cursor;
-        study = answer(study, bytes_of(&line, got.length), &mut text);
+        let turn = answer(study, bytes_of(&line, got.length), &mut text);
+        let reply = turn.reply;
+        print_reply(reply, &text);
+        study = turn.study;
     }
 }

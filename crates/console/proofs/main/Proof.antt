@@ -30,6 +30,9 @@ bytes-of-requires c κs = search needs
 answer-requires : tie.Need-answer-requires Inv-loop μ-loop
 answer-requires c κs = search needs
 
+print-reply-requires : tie.Need-print-reply-requires Inv-loop μ-loop
+print-reply-requires c κs = search needs
+
 loop-less : tie.Need-loop-less Inv-loop μ-loop
 loop-less c = search needs
 
@@ -52,6 +55,7 @@ main-spec =
     returns
     bytes-of-requires
     answer-requires
+    print-reply-requires
     loop-less
     loop-again
     returns-2)

@@ -1,0 +1,239 @@
+-- `console::calls::make_call` has the effect of the call that its line names, which is none of those before it. Assumes nothing.
+use mathlib.Core.Path.{_≡_, _∙_, sym, ap}
+use mathlib.Core.Bool.{false}
+use Rattle.network.specs.Network.{network}
+use Rattle.console.specs.Lines.{beginsWith, isWord}
+use Rattle.console.specs.Effects.{startEffect, busEffect, sourceEffect, queryEffect, readEffect, writeEffect, startWord, busWord, sourceWord, closeWord, queryWord, readWord, writeWord}
+use Rattle.console.specs.EffectsLaw.{call-start, call-bus, call-source, call-close, call-query, call-read, call-write, call-unknown}
+use borrow.Author.Needs.{needs}
+use Rattle.console.proofs.calls.make_call.Statement.{statement}
+use Rattle.console.proofs.calls.make_call.Tie as tie
+
+-- where control went past a word, the line does not have it
+abbrev entry1 : tie.Else1 → tie.Start
+entry1 c = c .before .before .before .before
+
+not-start : (c : tie.Else1) → beginsWith startWord (entry1 c .args .line .now) ≡ false
+not-start c = sym (c .before .begins .ensures) ∙ c .if1 .left
+
+abbrev entry2 : tie.Else2 → tie.Start
+entry2 c = entry1 (c .before .before .before)
+
+not-bus : (c : tie.Else2) → beginsWith busWord (entry2 c .args .line .now) ≡ false
+not-bus c = sym (c .before .begins2 .ensures) ∙ c .if2 .left
+
+abbrev entry3 : tie.Else3 → tie.Start
+entry3 c = entry2 (c .before .before .before)
+
+not-source : (c : tie.Else3) → beginsWith sourceWord (entry3 c .args .line .now) ≡ false
+not-source c = sym (c .before .begins3 .ensures) ∙ c .if3 .left
+
+abbrev entry4 : tie.Else4 → tie.Start
+entry4 c = entry3 (c .before .before .before)
+
+not-close : (c : tie.Else4) → isWord closeWord (entry4 c .args .line .now) ≡ false
+not-close c = sym (c .before .is .ensures) ∙ c .if4 .left
+
+abbrev entry5 : tie.Else5 → tie.Start
+entry5 c = entry4 (c .before .before .before)
+
+not-query : (c : tie.Else5) → beginsWith queryWord (entry5 c .args .line .now) ≡ false
+not-query c = sym (c .before .begins4 .ensures) ∙ c .if5 .left
+
+abbrev entry6 : tie.Else6 → tie.Start
+entry6 c = entry5 (c .before .before .before)
+
+not-read : (c : tie.Else6) → beginsWith readWord (entry6 c .args .line .now) ≡ false
+not-read c = sym (c .before .begins5 .ensures) ∙ c .if6 .left
+
+abbrev entry7 : tie.Else7 → tie.Start
+entry7 c = entry6 (c .before .before .before)
+
+not-write : (c : tie.Else7) → beginsWith writeWord (entry7 c .args .line .now) ≡ false
+not-write c = sym (c .before .begins6 .ensures) ∙ c .if7 .left
+
+slice-aggregate-begins : tie.Need-slice-aggregate-begins
+slice-aggregate-begins c = search needs
+
+begins-requires : tie.Need-begins-requires
+begins-requires c κs = search needs
+
+after-requires : tie.Need-after-requires
+after-requires c κs = search needs
+
+make-start-requires : tie.Need-make-start-requires
+make-start-requires c κs = search needs
+
+returns : tie.Need-returns
+returns c =
+    let then = c .before .before in
+    let a = then .before .before .before .before .args in
+    let n = network (a .s) in
+    λ h. c .make-start .ensures _ ∙ ap (startEffect n) (c .before .after .ensures) ∙ call-start n (a .line .now) (sym (then .before .begins .ensures) ∙ then .if1 .taken)
+
+slice-aggregate-begins-2 : tie.Need-slice-aggregate-begins-2
+slice-aggregate-begins-2 c = search needs
+
+begins-requires-2 : tie.Need-begins-requires-2
+begins-requires-2 c κs = search needs
+
+after-requires-2 : tie.Need-after-requires-2
+after-requires-2 c κs = search needs
+
+make-bus-requires : tie.Need-make-bus-requires
+make-bus-requires c κs = search needs
+
+returns-2 : tie.Need-returns-2
+returns-2 c =
+    let then = c .before .before in
+    let past = then .before .before .before in
+    let a = entry1 past .args in
+    let n = network (a .s) in
+    λ h. c .make-bus .ensures _ ∙ ap (busEffect n) (c .before .after2 .ensures) ∙ call-bus n (a .line .now) (not-start (past)) (sym (then .before .begins2 .ensures) ∙ then .if2 .taken)
+
+slice-aggregate-begins-3 : tie.Need-slice-aggregate-begins-3
+slice-aggregate-begins-3 c = search needs
+
+begins-requires-3 : tie.Need-begins-requires-3
+begins-requires-3 c κs = search needs
+
+after-requires-3 : tie.Need-after-requires-3
+after-requires-3 c κs = search needs
+
+make-source-requires : tie.Need-make-source-requires
+make-source-requires c κs = search needs
+
+returns-3 : tie.Need-returns-3
+returns-3 c =
+    let then = c .before .before in
+    let past = then .before .before .before in
+    let a = entry2 past .args in
+    let n = network (a .s) in
+    λ h. c .make-source .ensures _ ∙ ap (sourceEffect n) (c .before .after3 .ensures) ∙ call-source n (a .line .now) (not-start (past .before .before .before)) (not-bus (past)) (sym (then .before .begins3 .ensures) ∙ then .if3 .taken)
+
+slice-aggregate-is : tie.Need-slice-aggregate-is
+slice-aggregate-is c = search needs
+
+is-requires : tie.Need-is-requires
+is-requires c κs = search needs
+
+make-close-requires : tie.Need-make-close-requires
+make-close-requires c κs = search needs
+
+returns-4 : tie.Need-returns-4
+returns-4 c =
+    let then = c .before in
+    let past = then .before .before .before in
+    let a = entry3 past .args in
+    let n = network (a .s) in
+    λ h. c .make-close .ensures _ ∙ call-close n (a .line .now) (not-start (past .before .before .before .before .before .before)) (not-bus (past .before .before .before)) (not-source (past)) (sym (then .before .is .ensures) ∙ then .if4 .taken)
+
+slice-aggregate-begins-4 : tie.Need-slice-aggregate-begins-4
+slice-aggregate-begins-4 c = search needs
+
+begins-requires-4 : tie.Need-begins-requires-4
+begins-requires-4 c κs = search needs
+
+after-requires-4 : tie.Need-after-requires-4
+after-requires-4 c κs = search needs
+
+make-query-requires : tie.Need-make-query-requires
+make-query-requires c κs = search needs
+
+returns-5 : tie.Need-returns-5
+returns-5 c =
+    let then = c .before .before in
+    let past = then .before .before .before in
+    let a = entry4 past .args in
+    let n = network (a .s) in
+    λ h. c .make-query .ensures .1 _ ∙ ap (queryEffect n) (c .before .after4 .ensures) ∙ call-query n (a .line .now) (not-start (past .before .before .before .before .before .before .before .before .before)) (not-bus (past .before .before .before .before .before .before)) (not-source (past .before .before .before)) (not-close (past)) (sym (then .before .begins4 .ensures) ∙ then .if5 .taken)
+
+slice-aggregate-begins-5 : tie.Need-slice-aggregate-begins-5
+slice-aggregate-begins-5 c = search needs
+
+begins-requires-5 : tie.Need-begins-requires-5
+begins-requires-5 c κs = search needs
+
+after-requires-5 : tie.Need-after-requires-5
+after-requires-5 c κs = search needs
+
+make-read-requires : tie.Need-make-read-requires
+make-read-requires c κs = search needs
+
+returns-6 : tie.Need-returns-6
+returns-6 c =
+    let then = c .before .before .before in
+    let past = then .before .before .before in
+    let a = entry5 past .args in
+    let n = network (a .s) in
+    λ h. c .make-read .ensures h ∙ ap (readEffect n) (c .before .before .after5 .ensures) ∙ call-read n (a .line .now) (not-start (past .before .before .before .before .before .before .before .before .before .before .before .before)) (not-bus (past .before .before .before .before .before .before .before .before .before)) (not-source (past .before .before .before .before .before .before)) (not-close (past .before .before .before)) (not-query (past)) (sym (then .before .begins5 .ensures) ∙ then .if6 .taken)
+
+slice-aggregate-begins-6 : tie.Need-slice-aggregate-begins-6
+slice-aggregate-begins-6 c = search needs
+
+begins-requires-6 : tie.Need-begins-requires-6
+begins-requires-6 c κs = search needs
+
+after-requires-6 : tie.Need-after-requires-6
+after-requires-6 c κs = search needs
+
+make-write-requires : tie.Need-make-write-requires
+make-write-requires c κs = search needs
+
+returns-7 : tie.Need-returns-7
+returns-7 c =
+    let then = c .before .before .before in
+    let past = then .before .before .before in
+    let a = entry6 past .args in
+    let n = network (a .s) in
+    λ h. c .make-write .ensures .1 h ∙ ap (writeEffect n) (c .before .before .after6 .ensures) ∙ call-write n (a .line .now) (not-start (past .before .before .before .before .before .before .before .before .before .before .before .before .before .before .before)) (not-bus (past .before .before .before .before .before .before .before .before .before .before .before .before)) (not-source (past .before .before .before .before .before .before .before .before .before)) (not-close (past .before .before .before .before .before .before)) (not-query (past .before .before .before)) (not-read (past)) (sym (then .before .begins6 .ensures) ∙ then .if7 .taken)
+
+failed-requires : tie.Need-failed-requires
+failed-requires c κs = search needs
+
+returns-8 : tie.Need-returns-8
+returns-8 c =
+    let past = c .before in
+    let a = entry7 past .args in
+    λ h. c .failed .ensures .1 _ ∙ call-unknown (network (a .s)) (a .line .now) (not-start (past .before .before .before .before .before .before .before .before .before .before .before .before .before .before .before .before .before .before)) (not-bus (past .before .before .before .before .before .before .before .before .before .before .before .before .before .before .before)) (not-source (past .before .before .before .before .before .before .before .before .before .before .before .before)) (not-close (past .before .before .before .before .before .before .before .before .before)) (not-query (past .before .before .before .before .before .before)) (not-read (past .before .before .before)) (not-write (past))
+
+pub make-call-spec : {M : Type 1} → statement M
+make-call-spec =
+    tie.close
+    (tie.spec
+    slice-aggregate-begins
+    begins-requires
+    after-requires
+    make-start-requires
+    returns
+    slice-aggregate-begins-2
+    begins-requires-2
+    after-requires-2
+    make-bus-requires
+    returns-2
+    slice-aggregate-begins-3
+    begins-requires-3
+    after-requires-3
+    make-source-requires
+    returns-3
+    slice-aggregate-is
+    is-requires
+    make-close-requires
+    returns-4
+    slice-aggregate-begins-4
+    begins-requires-4
+    after-requires-4
+    make-query-requires
+    returns-5
+    slice-aggregate-begins-5
+    begins-requires-5
+    after-requires-5
+    make-read-requires
+    returns-6
+    slice-aggregate-begins-6
+    begins-requires-6
+    after-requires-6
+    make-write-requires
+    returns-7
+    failed-requires
+    returns-8)

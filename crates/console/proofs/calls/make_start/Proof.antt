@@ -1,0 +1,57 @@
+-- `console::calls::make_start` has its effect, with one number or without. Assumes nothing.
+use mathlib.Core.Path.{_∙_, ap₂}
+use Rattle.network.specs.Network.{network}
+use Rattle.console.specs.Effects.{ground, startBy}
+use Rattle.console.specs.EffectsLaw.{numbers-taken, numbers-wrong}
+use borrow.Author.Needs.{needs}
+use Rattle.console.proofs.calls.make_start.Statement.{statement}
+use Rattle.console.proofs.calls.make_start.Tie as tie
+
+numbers-of-requires : tie.Need-numbers-of-requires
+numbers-of-requires c κs = search needs
+
+takes-requires : tie.Need-takes-requires
+takes-requires c κs = search needs
+
+array-read-start : tie.Need-array-read-start
+array-read-start c = search needs
+
+start-requires : tie.Need-start-requires
+start-requires c κs = search needs
+
+answered-requires : tie.Need-answered-requires
+answered-requires c κs = search needs
+
+returns : tie.Need-returns
+returns c =
+    let then = c .before .before in
+    let before = then .before .before .before in
+    let n = network (before .before .before .args .s) in
+    let done = c .before .start .ensures in
+    λ text. c .answered .ensures text ∙ ap₂ ground (done .0) (done .1) ∙ numbers-taken 1 startBy n _ _ (before .numbers-of .ensures) _ (then .before .takes .ensures) (then .if1 .taken)
+
+reason-of-requires : tie.Need-reason-of-requires
+reason-of-requires c κs = search needs
+
+failed-requires : tie.Need-failed-requires
+failed-requires c κs = search needs
+
+returns-2 : tie.Need-returns-2
+returns-2 c =
+    let before = c .before .before .before .before .before in
+    let n = network (before .before .before .args .s) in
+    λ text. c .failed .ensures .1 text ∙ numbers-wrong 1 startBy n _ _ (before .numbers-of .ensures) _ (c .before .before .before .takes .ensures) (c .before .before .if1 .left) _ (c .before .reason-of .ensures)
+
+pub make-start-spec : {M : Type 1} → statement M
+make-start-spec =
+    tie.close
+    (tie.spec
+    numbers-of-requires
+    takes-requires
+    array-read-start
+    start-requires
+    answered-requires
+    returns
+    reason-of-requires
+    failed-requires
+    returns-2)

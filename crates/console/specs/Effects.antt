@@ -1,0 +1,155 @@
+-- What the console makes of a line, by README, "Answers": the line that it answers, and the network after it. Definitions alone; what is
+-- answered to a line with a fault names the first reason, in the order of the code.
+use Prim.Native.Nat.{ℕ}
+use mathlib.Core.Bool.{Bool, cond, _&&_, _||_}
+use mathlib.Core.List.{List, [], _∷_}
+use lib.Dec.{leb, ltb, eqb}
+use lib.ListN.{length, take, drop, getD, replicate}
+use Rattle.network.specs.Network.{Network, network}
+use Rattle.network.specs.Grounds.{startNumber, startNetwork, busNumber, afterBus, sourceNumber, afterSource, closeNumber, afterClose}
+use Rattle.network.specs.QueryAll.{foundGiven}
+use Rattle.reader.specs.declared.Numbers.{Numbers}
+use Rattle.reader.specs.File.{busFields, sourceFields, fields, busOf, sourceOf, Outcome, readOf}
+use Rattle.reader.specs.Gathered.{gathered}
+use Rattle.writer.specs.Writing.{writeNumber, writeLength, afterWrite}
+use Rattle.console.specs.declared.turns.Reason.{Reason}
+use Rattle.console.specs.declared.turns.Reason.the-variants.{Fields, Number, Hex, Room, Unknown, Long}
+use Rattle.console.specs.declared.turns.Reply.{Reply}
+use Rattle.console.specs.declared.turns.Reply.the-variants.{Ground, Reading, Found, Written, Error}
+use Rattle.console.specs.declared.turns.Turn.{Turn}
+use Rattle.console.specs.Answers.{errorLine, numberLine, readingLine, foundLine, writtenLine, filler}
+use Rattle.console.specs.Lines.{beginsWith, isWord, hexPairs, hexBytes}
+
+pub record Effect : Type 0 where
+  pub answer : List ℕ
+  pub network : Network
+
+-- ---- the effect of a turn of the code
+-- the bytes of `fields`, `number`, `hex`, `room`, `unknown call` and `line too long`
+abbrev pub reasonText : Reason → List ℕ
+reasonText Fields = 102 ∷ 105 ∷ 101 ∷ 108 ∷ 100 ∷ 115 ∷ []
+reasonText Number = 110 ∷ 117 ∷ 109 ∷ 98 ∷ 101 ∷ 114 ∷ []
+reasonText Hex = 104 ∷ 101 ∷ 120 ∷ []
+reasonText Room = 114 ∷ 111 ∷ 111 ∷ 109 ∷ []
+reasonText Unknown = 117 ∷ 110 ∷ 107 ∷ 110 ∷ 111 ∷ 119 ∷ 110 ∷ 32 ∷ 99 ∷ 97 ∷ 108 ∷ 108 ∷ []
+reasonText Long = 108 ∷ 105 ∷ 110 ∷ 101 ∷ 32 ∷ 116 ∷ 111 ∷ 111 ∷ 32 ∷ 108 ∷ 111 ∷ 110 ∷ 103 ∷ []
+
+-- the line of a reply; of a writing it ends with the first bytes of the lent text
+abbrev pub replyLine : List ℕ → Reply → List ℕ
+replyLine text (Ground number) = numberLine number
+replyLine text (Reading number row) = readingLine number row
+replyLine text (Found found) = foundLine found
+replyLine text (Written number size count) = writtenLine number size (take count text)
+replyLine text (Error reason) = errorLine (reasonText reason)
+
+abbrev pub effectOf : List ℕ → Turn → Effect
+effectOf text t = record { answer = replyLine text (t .reply); network = network (t .study) }
+
+-- ---- the lines of README's table
+-- "`error,` and a reason; nothing is changed"
+abbrev pub wrong : Reason → Network → Effect
+wrong reason n = record { answer = errorLine (reasonText reason); network = n }
+
+-- "the number of the ground, 0 where accepted"
+abbrev pub ground : ℕ → Network → Effect
+ground number n = record { answer = numberLine number; network = n }
+
+-- so many numbers behind a word, and all of them numbers; where not, a field is no number, unless there are too many before it
+abbrev pub counted : Numbers → ℕ → Bool
+counted v wanted = v .ok && eqb (v .count) wanted
+
+abbrev pub reasonOf : Numbers → Reason
+reasonOf v = cond (v .ok || eqb (v .count) busFields) Fields Number
+
+unfoldable pub numbered : ℕ → (List ℕ → Effect) → Network → Numbers → Effect
+numbered wanted call n v = cond (counted v wanted) (call (v .values)) (wrong (reasonOf v) n)
+
+-- "`start,T`"
+abbrev pub startBy : List ℕ → Effect
+startBy v = ground (startNumber (getD v 0 0)) (startNetwork (getD v 0 0))
+
+abbrev pub startEffect : Network → List ℕ → Effect
+startEffect n rest = numbered 1 startBy n (gathered (fields rest))
+
+-- "`bus,` and ten numbers"
+abbrev pub busBy : Network → List ℕ → Effect
+busBy n v = ground (busNumber n (busOf v)) (afterBus n (busOf v))
+
+abbrev pub busEffect : Network → List ℕ → Effect
+busEffect n rest = numbered busFields (busBy n) n (gathered (fields rest))
+
+-- "`source,` and seven numbers"
+abbrev pub sourceBy : Network → List ℕ → Effect
+sourceBy n v = ground (sourceNumber n (sourceOf v)) (afterSource n (sourceOf v))
+
+abbrev pub sourceEffect : Network → List ℕ → Effect
+sourceEffect n rest = numbered sourceFields (sourceBy n) n (gathered (fields rest))
+
+-- "`close`"
+abbrev pub closeEffect : Network → Effect
+closeEffect n = ground (closeNumber n) (afterClose n)
+
+-- "`query,BUS`"
+abbrev pub queryBy : Network → List ℕ → Effect
+queryBy n v = record { answer = foundLine (foundGiven n (getD v 0 0)); network = n }
+
+abbrev pub queryEffect : Network → List ℕ → Effect
+queryEffect n rest = numbered 1 (queryBy n) n (gathered (fields rest))
+
+-- "`read,HEX`": "number and row"
+abbrev pub readBy : Outcome → Effect
+readBy o = record { answer = readingLine (o .number) (o .row); network = o .network }
+
+unfoldable pub readEffect : Network → List ℕ → Effect
+readEffect n rest = cond (hexPairs rest && leb (length rest) 140000) (readBy (readOf (hexBytes rest))) (wrong Hex n)
+
+-- "`write,ROOM`": "all ROOM lent bytes"; "each byte is 0x55 before the call"; "ROOM is at most 70,000"
+unfoldable pub writeInto : Network → ℕ → Effect
+writeInto n room = record { answer = writtenLine (writeNumber n room) (writeLength n room) (afterWrite n (replicate room filler)); network = n }
+
+abbrev pub writeBy : Network → List ℕ → Effect
+writeBy n v = cond (leb (getD v 0 0) 70000) (writeInto n (getD v 0 0)) (wrong Room n)
+
+abbrev pub writeEffect : Network → List ℕ → Effect
+writeEffect n rest = numbered 1 (writeBy n) n (gathered (fields rest))
+
+-- the bytes of the words, each with its comma but `close`
+abbrev pub startWord : List ℕ
+startWord = 115 ∷ 116 ∷ 97 ∷ 114 ∷ 116 ∷ 44 ∷ []
+
+abbrev pub busWord : List ℕ
+busWord = 98 ∷ 117 ∷ 115 ∷ 44 ∷ []
+
+abbrev pub sourceWord : List ℕ
+sourceWord = 115 ∷ 111 ∷ 117 ∷ 114 ∷ 99 ∷ 101 ∷ 44 ∷ []
+
+abbrev pub closeWord : List ℕ
+closeWord = 99 ∷ 108 ∷ 111 ∷ 115 ∷ 101 ∷ []
+
+abbrev pub queryWord : List ℕ
+queryWord = 113 ∷ 117 ∷ 101 ∷ 114 ∷ 121 ∷ 44 ∷ []
+
+abbrev pub readWord : List ℕ
+readWord = 114 ∷ 101 ∷ 97 ∷ 100 ∷ 44 ∷ []
+
+abbrev pub writeWord : List ℕ
+writeWord = 119 ∷ 114 ∷ 105 ∷ 116 ∷ 101 ∷ 44 ∷ []
+
+-- THE EFFECT OF A LINE: by the word that it begins with, and what stands behind that
+abbrev pub behind : List ℕ → List ℕ → List ℕ
+behind word line = drop (length word) line
+
+unfoldable pub callEffect : Network → List ℕ → Effect
+callEffect n line =
+    cond (beginsWith startWord line) (startEffect n (behind startWord line))
+    (cond (beginsWith busWord line) (busEffect n (behind busWord line))
+    (cond (beginsWith sourceWord line) (sourceEffect n (behind sourceWord line))
+    (cond (isWord closeWord line) (closeEffect n)
+    (cond (beginsWith queryWord line) (queryEffect n (behind queryWord line))
+    (cond (beginsWith readWord line) (readEffect n (behind readWord line))
+    (cond (beginsWith writeWord line) (writeEffect n (behind writeWord line))
+    (wrong Unknown n)))))))
+
+-- "an input line has at most 140,000 bytes"
+unfoldable pub lineEffect : Network → List ℕ → Effect
+lineEffect n line = cond (ltb 140000 (length line)) (wrong Long n) (callEffect n line)
