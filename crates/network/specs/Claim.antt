@@ -63,6 +63,7 @@ module _ (c u A B D : ℕ) where
   room-of : c ≤ 110 → (A + B) * u ≤ seenMost * D → c * u * (c * u) * norm A B ≤ 2 ^ 100 * (10000 * (D * D))
   room-of hc h = from (c ∷ u ∷ A ∷ B ∷ D ∷ []) (u * u * ((A + B) * (A + B)) ⋆ mul-le-mul hc hc ⊹ 12100 ⋆ mul-le-mul h h) (search read depth 40 fits 20000) refl
 
+-- as many branches and machines as the laws cover
 tall : (k : ℕ) → k ≤ coveredBuses → machineMost * coveredSources + branchMost * k ≤ seenMost
 tall k h = omega arith
 
@@ -120,7 +121,7 @@ converters-hold P x d e f = record {
     high : (i a b d : ℕ) → b ≡ 0 → 1 * norm a b ≤ 1 * (i * i * (d * d)) → a * a ≤ i * d * (i * d)
     high i a b d e h = from (i ∷ a ∷ d ∷ []) (rw e at h) (search read depth 40 fits 20000) refl
 
--- as many converters of 30,000 A at the highest voltage, seen at the lowest
+-- as many converters, each of 30,000 A at the highest voltage, seen at the lowest
 few-amperes : (u S A B D : ℕ) → 100 ≤ u → S ≤ 2 ^ 34 * coveredSources → (A + B) * u ≤ wayRatio * S * D → norm A B ≤ 2 ^ 100 * (D * D)
 few-amperes u S A B D hu hs h = from (A ∷ B ∷ D ∷ []) (mul-le-mul small small) (search read depth 40 fits 20000) refl
   where

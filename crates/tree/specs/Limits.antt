@@ -24,11 +24,11 @@ maxBranches = 18
 abbrev pub maxTransformers : ℕ
 maxTransformers = 4
 
--- ---- ways: as many branches lead from one bus to another at the most, to bus 0 and from it
+-- ---- ways: so many branches at the most lead from one bus to another, by way of bus 0
 abbrev pub wayBranches : ℕ
 wayBranches = 2 * maxBranches
 
--- and a walk over such a way takes a step more
+-- a walk over such a way takes one step more
 abbrev pub walkSteps : ℕ
 walkSteps = wayBranches + 1
 
@@ -58,7 +58,7 @@ seenUnits k n = k + (46 + 4 * n) * walkSteps
 abbrev pub carriedUnits : ℕ → ℕ → ℕ
 carriedUnits k n = k + (8 * wayBranches + 4 * n)
 
--- no error is larger
+-- no error of what is seen or carried is larger
 abbrev pub mostUnits : ℕ
 mostUnits = 30000
 
