@@ -24,6 +24,6 @@ pub mod Sentences
 pub mod Same
 pub mod VerdictLaw
 pub mod QueryAllLaw
-pub mod Worked
 pub mod Promise
 pub mod NearPromise
+pub mod Worked
