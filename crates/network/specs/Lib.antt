@@ -4,8 +4,10 @@ pub mod Grounds
 pub mod Calls
 pub mod Booleans
 pub mod Ways
+pub mod Each
 pub mod Acceptance
 pub mod Rebuilt
+pub mod SourcesChanged
 pub mod Facts
 pub mod Reached
 pub mod Grid
