@@ -2,8 +2,7 @@
 -- drawn from its records. Assumes nothing.
 use Prim.Native.Nat.{ℕ, zero, suc, _+_, _*_, _^_, _≤_, _<_}
 use mathlib.Core.Path.{_≡_, refl, sym, _∙_, ap, subst}
-use mathlib.Core.Bool.{true}
-use mathlib.Core.List.{List, [], _∷_}
+use mathlib.Core.List.{[], _∷_}
 use native.Mathlib.Omega.{arith}
 use native.Mathlib.Nat.{le-refl, le-trans, le-of-eq, mul-le-mul, mul-add, mul-pos}
 use lib.Dec.{lit<, lit≤}
@@ -38,9 +37,8 @@ use Rattle.tree.specs.Seen.{seen-near, seen-low, seen-high}
 use Rattle.tree.specs.Rooted.{carried-proper}
 use Rattle.tree.specs.Currents.{carried-near, carried-range, carried-most}
 use Rattle.network.specs.Network.{Network, maxBuses}
-use Rattle.network.specs.Calls.{Call, run}
-use Rattle.network.specs.Rebuilt.{Rebuilt, run-rebuilt}
-use Rattle.network.specs.Facts.{bus-volts, few-buses, closed-source}
+use Rattle.network.specs.Rebuilt.{Rebuilt}
+use Rattle.network.specs.Facts.{bus-volts, few-buses}
 use Rattle.network.specs.SourceKinds.{isConverter}
 use Rattle.network.specs.Grid.{gridOf, converterAt}
 use Rattle.network.specs.Demand.{Whole, MachinesHold, ConvertersHold, Demand}
@@ -245,8 +243,3 @@ module _ {n : Network} (r : Rebuilt n) (source : 0 < length (n .sources)) (b : �
     machines = machine-peak _ (voltsOf n b) (seen (gridOf n) b b) (seenAt n b) reactive machine-part;
     converters = converter-peak (carried (gridOf n) b) (carriedAt n b) real converter-part;
   }
-
--- THE CLAIM, for every list of calls, refused ones among them: if its run is closed, then what is given for any bus of it meets demand 3
--- for the network read off that list
-pub claim : (cs : List Call) → run cs .closed ≡ true → (b : ℕ) → b < length (run cs .buses) → Demand (run cs) b (amperesAt (run cs) b)
-claim cs c b l = demand (run-rebuilt cs) (closed-source (run-rebuilt cs) c) b l

@@ -15,7 +15,7 @@ use Rattle.network.specs.Network.{Network, maxBuses, maxSources, maxBran
 use Rattle.network.specs.Grounds.{depthOk, busGrounds, busRecordNumber, sourceGrounds, sourceRecordNumber}
 use Rattle.network.specs.Booleans.{by-test, both-true, where-true, within-true, at-zero, past-zero, all-true, not-both-zero}
 use Rattle.network.specs.Acceptance.{testOf, ground}
-use Rattle.network.specs.Rebuilt.{Rebuilt}
+use Rattle.network.specs.Rebuilt.{Rebuilt, source-record}
 
 -- ---- ranges of records, as facts
 pub record LineRanges (b : Bus) : Type 0 where
@@ -194,7 +194,7 @@ module _ {n : Network} (r : Rebuilt n) (i : ℕ) (h : i < length (n .buses)) whe
 module _ {n : Network} (r : Rebuilt n) (j : ℕ) (h : j < length (n .sources)) where
   pub source-test : (k : ℕ) → testOf (sourceGrounds (n .buses) j (sourceAt (n .sources) j)) k ≡ true
   unfolding sourceRecordNumber
-  source-test k = ground (sourceGrounds (n .buses) j (sourceAt (n .sources) j)) k refl (r .source-records j h)
+  source-test k = ground (sourceGrounds (n .buses) j (sourceAt (n .sources) j)) k refl (source-record r j h)
 
   pub source-kind-ok : sourceKindOk (sourceAt (n .sources) j) ≡ true
   source-kind-ok = source-test 10

@@ -6,8 +6,10 @@ pub mod Calls
 pub mod Booleans
 pub mod SourceKindsLaw
 pub mod Ways
+pub mod Each
 pub mod Acceptance
 pub mod Rebuilt
+pub mod SourcesChanged
 pub mod Facts
 pub mod Reached
 pub mod Grid
@@ -27,6 +29,6 @@ pub mod Sentences
 pub mod Same
 pub mod VerdictLaw
 pub mod QueryAllLaw
-pub mod Worked
 pub mod Promise
 pub mod NearPromise
+pub mod Worked

@@ -14,7 +14,7 @@ use Rattle.network.specs.Calls.{Call, step, runFrom, run-append, emptyNe
 use Rattle.network.specs.Calls.Call.{starting, addingBus, addingSource, closing}
 use Rattle.network.specs.Booleans.{by-test}
 use Rattle.network.specs.Acceptance.{bus-record-same, bus-number-open, source-number-open, granted}
-use Rattle.network.specs.Rebuilt.{Rebuilt}
+use Rattle.network.specs.Rebuilt.{Rebuilt, source-record}
 
 -- each record is accepted by the open network of those before it
 pub bus-in-turn : {n : Network} → Rebuilt n → (i : ℕ) → i < length (n .buses) → busNumber (openOf (n .tolerance) (take i (n .buses)) []) (busAt (n .buses) i) ≡ 0
@@ -29,7 +29,7 @@ source-in-turn {n} r j h =
     let l = n .sources in
     let e = length-take-le j l (omega arith) in
     let next = source-number-open (openOf (n .tolerance) (n .buses) (take j l)) (sourceAt l j) refl (omega (arith, r .source-room)) in
-    (rw e at next) ∙ r .source-records j h
+    (rw e at next) ∙ source-record r j h
 
 -- a call for each element of a list, where each takes the network of the elements before it to that of one more
 added-from : {X : Type 0} (call : X → Call) (put : List X → Network) (d : X) (l : List X) → ((i : ℕ) → i < length l → step (put (take i l)) (call (getD l i d)) ≡ put (take (suc i) l)) → (m k : ℕ) → k + m ≡ length l → runFrom (put (take k l)) (map call (drop k l)) ≡ put l

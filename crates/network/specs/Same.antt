@@ -1,11 +1,10 @@
 -- Document 01: "Networks are alike in all but their converters when tolerance, buses and the other sources, in order, agree." Then every
 -- bus gets the same bounds and the same peak for the machines' part. Assumes nothing.
-use Prim.Native.Nat.{ℕ, _<_}
+use Prim.Native.Nat.{ℕ}
 use mathlib.Core.Path.{_≡_, _∙_, ap, ap₂}
 use mathlib.Core.Bool.{true}
 use mathlib.Core.List.{List}
 use lib.Dec.{eqb}
-use lib.ListN.{length}
 use lib.Ieee.{Float}
 use Rattle.enclosure.specs.Units.{ofNat}
 use Rattle.enclosure.specs.Doubles.{none, added, lowerOf, upperOf}
@@ -20,7 +19,6 @@ use Rattle.sweep.specs.laws.Columns.{points-same}
 use Rattle.network.specs.declared.Bus.{Bus}
 use Rattle.network.specs.declared.Amperes.{Amperes}
 use Rattle.network.specs.Network.{Network, busAt}
-use Rattle.network.specs.Calls.{Call, run}
 use Rattle.network.specs.Booleans.{both-true}
 use Rattle.network.specs.SourceKinds.{isMachine}
 use Rattle.network.specs.RoundedSourceKinds.{admittanceBy}
@@ -54,6 +52,7 @@ seen-alike n m a b =
 abbrev pub machinesOf : Amperes → (Float × Float × Float)
 machinesOf a = (a .lower .0, a .upper .0, a .peak .0)
 
+-- SAMENESS, for any two networks
 pub machines-alike : (n m : Network) → Alike n m → (b : ℕ) → machinesOf (amperesAt n b) ≡ machinesOf (amperesAt m b)
 machines-alike n m a b = figures (seen-alike n m a b) (ap₂ (λ (t : ℕ) (x : List Bus). factorC t (busAt x b .volts)) (a .tolerance) (a .buses)) (ap (λ (x : List Bus). busAt x b .volts) (a .buses))
   where
@@ -61,8 +60,3 @@ machines-alike n m a b = figures (seen-alike n m a b) (ap₂ (λ (t : ℕ) (x : 
         → _≡_ {A = Float × Float × Float} (ofNat (lowerOf 1 3 (currentBy c u y)), ofNat (upperOf 1 3 (currentBy c u y)), ofNat (machinePeakBy c u y))
         (ofNat (lowerOf 1 3 (currentBy c′ u′ y′)), ofNat (upperOf 1 3 (currentBy c′ u′ y′)), ofNat (machinePeakBy c′ u′ y′))
     figures p q e = rw (p, q, e)
-
--- SAMENESS, for any two lists of calls
-pub sameness : (cs ds : List Call) → run cs .closed ≡ true → run ds .closed ≡ true → Alike (run cs) (run ds) → (b : ℕ) → b < length (run cs .buses)
-    → machinesOf (amperesAt (run cs) b) ≡ machinesOf (amperesAt (run ds) b)
-sameness cs ds c d a b l = machines-alike (run cs) (run ds) a b

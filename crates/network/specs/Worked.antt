@@ -1,13 +1,12 @@
 -- Document 01's worked network of two buses, by computing the definitions; its verdict follows from demand 3 alone.
 -- Assumes nothing.
 use Prim.Native.Nat.{ℕ, _+_, _*_, _≤_, _<_}
-use mathlib.Core.Path.{_≡_, refl, sym, ap, subst, _∙_}
+use mathlib.Core.Path.{_≡_, refl, _∙_}
 use mathlib.Core.Bool.{true}
 use mathlib.Core.List.{List, [], _∷_}
 use native.Mathlib.Omega.{arith}
 use native.Mathlib.Nat.{lt-of-not-le, le-dest}
-use lib.Dec.{eqb→eq, leb→le, le→leb, ltb→lt, lit<, lit≤}
-use lib.ListN.{length}
+use lib.Dec.{eqb→eq, leb→le, le→leb, ltb→lt, lit<}
 use borrow.Author.Tests.{le-ltb, lt-leb}
 use Rattle.algebra.specs.Reading.{from, read, _⊹_, _⋆_}
 use Rattle.enclosure.specs.Point.{inverse}
@@ -29,12 +28,12 @@ use Rattle.network.specs.Records.{branchOk}
 use Rattle.network.specs.SourceKinds.{fieldsOk, impedanceOf}
 use Rattle.network.specs.Grounds.{depthOk, busRecordNumber, busNumberIn, afterBusIn, sourceRecordNumber, sourceNumberIn, afterSourceIn, closeNumber, afterClose}
 use Rattle.network.specs.Calls.{Call, starting, addingBus, addingSource, closing, run}
+use Rattle.network.specs.Rebuilt.{run-rebuilt}
 use Rattle.network.specs.Grid.{branchOf, aboveOf, belowOf, impedanceAt, convertersAt}
-use Rattle.network.specs.Demand.{Figures, NotAbove, NotBelow, driving, MachinesHold, ConvertersHold, Demand}
-use Rattle.network.specs.Rounded.{amperesAt}
+use Rattle.network.specs.Demand.{Figures, NotAbove, NotBelow, driving, MachinesHold, ConvertersHold}
 use Rattle.network.specs.Query.{verdictGiven}
-use Rattle.network.specs.Claim.{claim}
-use Rattle.network.specs.VerdictLaw.{query-accepted, verdict-given, verdict-whole}
+use Rattle.network.specs.QueryAll.{foundGiven}
+use Rattle.network.specs.Promise.{kept}
 
 -- "Bus 0 at 10,000 V, feeder 100,000 kVA, ρ 0; bus 1 over a line r 0, x 1,000, 1,100 m, 1 circuit; at bus 1 a generator 10,000 V,
 -- 10,000 kVA, xd 20,000, ρ 0, power factor 100", "a converter of 1,000 tenths, k 200, at bus 1"; "rating 7,898 with ample peak rating"
@@ -132,12 +131,11 @@ module _ (f : Figures) (m : MachinesHold (driving two 0) (impedanceAt two 0) (f 
 
 -- and so by the bounds that a query gives
 two-close : verdictGiven two 0 ≡ Close
+unfolding foundGiven
 two-close =
-    let l : 0 < length (run twoCalls .buses) = subst (λ (n : Network). 0 < length (n .buses)) (sym two-made) (lit< tt) in
-    let d : Demand two 0 (amperesAt two 0) = subst (λ (n : Network). Demand n 0 (amperesAt n 0)) two-made (claim twoCalls (ap (λ (n : Network). n .closed) two-made) 0 l) in
-    verdict-given two 0 (query-accepted two 0 refl (lit< tt))
-    ∙ verdict-whole (amperesAt two 0) (d .figures) (d .whole) 7898 3000000 (lit≤ tt) (lit≤ tt)
-    ∙ close (d .figures) (d .machines) (d .converters)
+    let k = kept (rw two-made at (run-rebuilt twoCalls)) refl 0 (lit< tt) in
+    let d = k .demand in
+    k .verdict (d .figures) (d .whole) ∙ close (d .figures) (d .machines) (d .converters)
 
 -- DOCUMENT 01'S STARRED POINTS, as one table
 pub record Starred : Type 0 where

@@ -1,5 +1,5 @@
 -- What reading a text leaves, as calls on a study: so whatever is proved of lists of calls holds of texts.
-use mathlib.Core.Path.{_≡_, refl, sym, ap, subst, _∙_}
+use mathlib.Core.Path.{_≡_, refl, sym, ap, _∙_}
 use mathlib.Core.Bool.{true}
 use mathlib.Core.List.{List, [], _∷_, _++_}
 use Prim.Native.Nat.{ℕ, _+_, _<_}
@@ -11,7 +11,8 @@ use Rattle.network.specs.Network.{Network}
 use Rattle.network.specs.Grounds.{closeNumber, afterClose}
 use Rattle.network.specs.declared.Found.{Found}
 use Rattle.network.specs.Calls.{Call, starting, addingBus, addingSource, closing, runFrom, run-append, emptyNetwork, run}
-use Rattle.network.specs.Query.{queryNumber, amperesGiven, verdictGiven}
+use Rattle.network.specs.Query.{amperesGiven}
+use Rattle.network.specs.QueryAll.{foundGiven}
 use Rattle.network.specs.Promise.{Kept, promised}
 use Rattle.network.specs.NearPeaks.{NearPeaks}
 use Rattle.network.specs.NearPromise.{near-promised}
@@ -88,17 +89,12 @@ module _ (text : List ℕ) (e : readOf text .number ≡ 0) where
 
   -- FROM THE BYTES TO THE AMPERES: what a query gives of the study that an accepted text leaves, at any bus of it, meets demand 3 for
   -- the network of the text's rows, with its verdict and the sameness of the machines' figures
-  pub read-kept : (b : ℕ) → b < length (readOf text .network .buses) → (f : Found)
-      → f .number ≡ queryNumber (readOf text .network) b → f .amperes ≡ amperesGiven (readOf text .network) b → f .verdict ≡ verdictGiven (readOf text .network) b → Kept (calls text) b f
-  read-kept b l f p q v =
-      promised (readOf text .network) b f p q v (calls text) read-run (subst (λ (n : Network). n .closed ≡ true) read-run read-closed)
-      (subst (λ (n : Network). b < length (n .buses)) read-run l)
+  pub read-kept : (b : ℕ) → b < length (readOf text .network .buses) → (f : Found) → f ≡ foundGiven (readOf text .network) b → Kept (run (calls text)) b f
+  read-kept b l f e = rw (← read-run) (promised (readOf text .network) b f e (calls text) read-run read-closed l)
 
   -- and its peaks are as near as a query promises beside demand 3
   pub read-near : (b : ℕ) → b < length (readOf text .network .buses) → (f : Found) → f .amperes ≡ amperesGiven (readOf text .network) b → NearPeaks (run (calls text)) b (f .amperes)
-  read-near b l f q =
-      near-promised (readOf text .network) b f q (calls text) read-run (subst (λ (n : Network). n .closed ≡ true) read-run read-closed)
-      (subst (λ (n : Network). b < length (n .buses)) read-run l)
+  read-near b l f e = rw (← read-run) (near-promised (readOf text .network) b f e (calls text) read-run read-closed l)
 
 -- ---- refused
 from-refused : (i : ℕ) (n : Network) (rs : List (List ℕ)) → (readFrom i n rs .number ≡ 0 → ⊥) → readFrom i n rs .network ≡ emptyNetwork

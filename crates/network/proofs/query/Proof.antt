@@ -23,7 +23,7 @@ returns c =
     let number : f .number ≡ queryNumber n b = ap (λ (r : Found). r .number) e in
     let amperes : f .amperes ≡ amperesGiven n b = ap (λ (r : Found). r .amperes) e in
     let verdict : f .verdict ≡ verdictGiven n b = ap (λ (r : Found). r .verdict) e in
-    (number, (amperes, (verdict, (promised n b f number amperes verdict, near-promised n b f amperes))))
+    (number, (amperes, (verdict, (promised n b f e, near-promised n b f amperes))))
 
 pub query-spec : {M : Type 1} → statement M
 query-spec = tie.close (tie.spec given-requires returns)

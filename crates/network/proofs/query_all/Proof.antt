@@ -21,7 +21,7 @@ returns c =
     let e = c .all-given .ensures in (
       e,
       (
-        λ b l. promised n b (rowAt r b) (ap (λ (f : Found). f .number) (row-given n r e b l)) (ap (λ (f : Found). f .amperes) (row-given n r e b l)) (ap (λ (f : Found). f .verdict) (row-given n r e b l)),
+        λ b l. promised n b (rowAt r b) (row-given n r e b l),
         λ b l. near-promised n b (rowAt r b) (ap (λ (f : Found). f .amperes) (row-given n r e b l)),
       ),
     )
