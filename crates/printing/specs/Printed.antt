@@ -12,6 +12,7 @@ use lib.Ieee.{Float, fin, lt, toUnsigned}
 use Rattle.network.specs.declared.Amperes.{Amperes}
 use Rattle.network.specs.declared.Verdict.{Verdict}
 use Rattle.network.specs.declared.Verdict.the-variants.{Within, Over, Close}
+use Rattle.network.specs.Demand.{Figures}
 use Rattle.network.specs.Verdict.{letterOf}
 use Rattle.network.specs.Booleans.{by-test}
 
@@ -56,6 +57,16 @@ amperesText a =
     ++ nextText (wholeOf (a .«converters_upper» .0))
     ++ nextText (wholeOf (a .peak .0))
     ++ nextText (wholeOf (a .«converters_peak» .0))
+
+-- six whole numbers in their place: what the amperes are printed as where they are these numbers (`amperes-printed` in Whole)
+unfoldable pub figuresText : Figures → List ℕ
+figuresText f =
+    nextText (f .lower)
+    ++ nextText (f .upper)
+    ++ nextText (f .«converters_lower»)
+    ++ nextText (f .«converters_upper»)
+    ++ nextText (f .peak)
+    ++ nextText (f .«converters_peak»)
 
 -- "W, O or C"
 unfoldable pub letterText : Verdict → List ℕ

@@ -9,7 +9,10 @@ use lib.Ieee.{Float, fin, lt, toUnsigned, up, down}
 use lib.Ieee.Fits.{down-pos}
 use lib.Ieee.Exact.{HasValue}
 use Rattle.enclosure.specs.Units.{ofNat, exact}
-use Rattle.printing.specs.Printed.{wholeOf}
+use Rattle.network.specs.declared.Amperes.{Amperes}
+use Rattle.network.specs.Demand as demand
+use Rattle.network.specs.Demand.{Figures}
+use Rattle.printing.specs.Printed.{wholeOf, amperesText, figuresText}
 
 value-whole : (x : Float) (n : ℕ) → n < 2 ^ 64 → HasValue x false n 1 → wholeOf x ≡ n
 unfolding lt toUnsigned
@@ -23,3 +26,22 @@ value-whole (fin false m e) n h v =
 
 pub whole-printed : (n : ℕ) → n ≤ 2 ^ 53 → wholeOf (ofNat n) ≡ n
 whole-printed n h = value-whole (ofNat n) n (omega arith) (exact n h)
+
+-- six amperes that are whole numbers
+pub amperes-printed : (a : Amperes) (f : Figures) → demand.Whole a f → amperesText a ≡ figuresText f
+unfolding amperesText figuresText
+amperes-printed a f w =
+    rw (
+      w .lower,
+      w .upper,
+      w .«converters_lower»,
+      w .«converters_upper»,
+      w .peak,
+      w .«converters_peak»,
+      whole-printed (f .lower) (omega (arith, w .lowers-small)),
+      whole-printed (f .upper) (omega (arith, w .uppers-small)),
+      whole-printed (f .«converters_lower») (omega (arith, w .lowers-small)),
+      whole-printed (f .«converters_upper») (omega (arith, w .uppers-small)),
+      whole-printed (f .peak) (omega (arith, w .peaks-small)),
+      whole-printed (f .«converters_peak») (omega (arith, w .peaks-small)),
+    )
