@@ -1,10 +1,10 @@
 -- What is printed of numbers, amperes and verdicts. The sentences are those of document 01, "The file": "prints per bus, from 0 up:
 -- its number, the six amperes as plain decimal integers, W, O or C (within, over, close), comma separated, CRLF".
-use Prim.Native.Nat.{ℕ, zero, suc, _+_, _/_, _%_, _≤_}
+use Prim.Native.Nat.{ℕ, zero, suc, _+_, _-_, _/_, _%_, _≤_}
 use native.Mathlib.Omega.{arith}
 use mathlib.Core.Path.{_≡_, refl}
 use lib.IntN.{pos}
-use lib.Dec.{ltb}
+use lib.Dec.{ltb, leb}
 use mathlib.Core.Bool.{true, false, cond}
 use mathlib.Core.List.{List, [], _∷_, _++_}
 use lib.ListN.{length, length-append}
@@ -25,6 +25,11 @@ abbrev pub amountOf : Verdict → Float
 amountOf (Within x) = x
 amountOf (Over x) = x
 amountOf Close = fin false 0 (pos 0)
+
+-- the same as a whole number, of whole sums L, U and P: "Over, by P − rated peak, ..; otherwise over, by L − rating, ..; within, with
+-- margin rating − U, ..; otherwise close" (`amount-printed` in Whole)
+abbrev pub amountOn : ℕ → ℕ → ℕ → ℕ → ℕ → ℕ
+amountOn L U P rating peakRating = cond (ltb peakRating P) (P - peakRating) (cond (ltb rating L) (L - rating) (cond (leb U rating) (rating - U) 0))
 
 -- ---- text, as a list of bytes
 -- the digits of a number of at most k digits, the first of them not 0 unless it is the only one

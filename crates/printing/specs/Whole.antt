@@ -1,10 +1,11 @@
 -- Whole amperes below 2 ^ 53, as `query` gives them, are printed as themselves.
-use mathlib.Core.Path.{_≡_, sym, ap, _∙_}
-use mathlib.Core.Bool.{true, false, true≢false}
-use Prim.Native.Nat.{ℕ, _+_, _*_, _/_, _^_, _≤_, _<_}
+use mathlib.Core.Path.{_≡_, refl, sym, ap, _∙_}
+use mathlib.Core.Bool.{Bool, true, false, cond, true≢false}
+use Prim.Native.Nat.{ℕ, _+_, _*_, _-_, _/_, _^_, _≤_, _<_}
 use native.Mathlib.Nat.{mul-one, mul-div-cancel, mul-lt-mul-of-pos-right}
 use native.Mathlib.Omega.{arith}
 use borrow.Author.Tests.{lt-ltb}
+use lib.Dec.{ltb, leb}
 use lib.Ieee.{Float, fin, lt, toUnsigned, up, down}
 use lib.Ieee.Fits.{down-pos}
 use lib.Ieee.Exact.{HasValue}
@@ -12,7 +13,9 @@ use Rattle.enclosure.specs.Units.{ofNat, exact}
 use Rattle.network.specs.declared.Amperes.{Amperes}
 use Rattle.network.specs.Demand as demand
 use Rattle.network.specs.Demand.{Figures}
-use Rattle.printing.specs.Printed.{wholeOf, amperesText, figuresText}
+use Rattle.network.specs.declared.Verdict.the-variants.{Within, Over, Close}
+use Rattle.network.specs.Verdict.{verdictOn}
+use Rattle.printing.specs.Printed.{wholeOf, amountOf, amountOn, amperesText, figuresText}
 
 value-whole : (x : Float) (n : ℕ) → n < 2 ^ 64 → HasValue x false n 1 → wholeOf x ≡ n
 unfolding lt toUnsigned
@@ -45,3 +48,17 @@ amperes-printed a f w =
       whole-printed (f .peak) (omega (arith, w .peaks-small)),
       whole-printed (f .«converters_peak») (omega (arith, w .peaks-small)),
     )
+
+-- and a verdict's amperes
+pub amount-printed : (L U P rating peakRating : ℕ) → L ≤ 2 ^ 53 → P ≤ 2 ^ 53 → rating ≤ 2 ^ 53
+    → wholeOf (amountOf (verdictOn L U P rating peakRating)) ≡ amountOn L U P rating peakRating
+unfolding lt toUnsigned
+amount-printed L U P rating peakRating hl hp hr = go (ltb peakRating P) (ltb rating L) (leb U rating)
+  where
+    go : (a b c : Bool)
+        → wholeOf (amountOf (cond a (Over (ofNat (P - peakRating))) (cond b (Over (ofNat (L - rating))) (cond c (Within (ofNat (rating - U))) Close))))
+        ≡ cond a (P - peakRating) (cond b (L - rating) (cond c (rating - U) 0))
+    go true b c = whole-printed (P - peakRating) (omega arith)
+    go false true c = whole-printed (L - rating) (omega arith)
+    go false false true = whole-printed (rating - U) (omega arith)
+    go false false false = refl
