@@ -1,4 +1,5 @@
 pub mod Answers
+pub mod AnswersLaw
 pub mod Lines
 pub mod LinesLaw
 pub mod Effects

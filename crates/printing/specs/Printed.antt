@@ -1,10 +1,10 @@
 -- What is printed of numbers, amperes and verdicts. The sentences are those of document 01, "The file": "prints per bus, from 0 up:
 -- its number, the six amperes as plain decimal integers, W, O or C (within, over, close), comma separated, CRLF".
-use Prim.Native.Nat.{ℕ, zero, suc, _+_, _/_, _%_, _≤_}
+use Prim.Native.Nat.{ℕ, zero, suc, _+_, _-_, _/_, _%_, _≤_}
 use native.Mathlib.Omega.{arith}
 use mathlib.Core.Path.{_≡_, refl}
 use lib.IntN.{pos}
-use lib.Dec.{ltb}
+use lib.Dec.{ltb, leb}
 use mathlib.Core.Bool.{true, false, cond}
 use mathlib.Core.List.{List, [], _∷_, _++_}
 use lib.ListN.{length, length-append}
@@ -12,6 +12,7 @@ use lib.Ieee.{Float, fin, lt, toUnsigned}
 use Rattle.network.specs.declared.Amperes.{Amperes}
 use Rattle.network.specs.declared.Verdict.{Verdict}
 use Rattle.network.specs.declared.Verdict.the-variants.{Within, Over, Close}
+use Rattle.network.specs.Demand.{Figures}
 use Rattle.network.specs.Verdict.{letterOf}
 use Rattle.network.specs.Booleans.{by-test}
 
@@ -24,6 +25,11 @@ abbrev pub amountOf : Verdict → Float
 amountOf (Within x) = x
 amountOf (Over x) = x
 amountOf Close = fin false 0 (pos 0)
+
+-- the same as a whole number, of whole sums L, U and P: "Over, by P − rated peak, ..; otherwise over, by L − rating, ..; within, with
+-- margin rating − U, ..; otherwise close" (`amount-printed` in Whole)
+abbrev pub amountOn : ℕ → ℕ → ℕ → ℕ → ℕ → ℕ
+amountOn L U P rating peakRating = cond (ltb peakRating P) (P - peakRating) (cond (ltb rating L) (L - rating) (cond (leb U rating) (rating - U) 0))
 
 -- ---- text, as a list of bytes
 -- the digits of a number of at most k digits, the first of them not 0 unless it is the only one
@@ -56,6 +62,16 @@ amperesText a =
     ++ nextText (wholeOf (a .«converters_upper» .0))
     ++ nextText (wholeOf (a .peak .0))
     ++ nextText (wholeOf (a .«converters_peak» .0))
+
+-- six whole numbers in their place: what the amperes are printed as where they are these numbers (`amperes-printed` in Whole)
+unfoldable pub figuresText : Figures → List ℕ
+figuresText f =
+    nextText (f .lower)
+    ++ nextText (f .upper)
+    ++ nextText (f .«converters_lower»)
+    ++ nextText (f .«converters_upper»)
+    ++ nextText (f .peak)
+    ++ nextText (f .«converters_peak»)
 
 -- "W, O or C"
 unfoldable pub letterText : Verdict → List ℕ

@@ -1,15 +1,21 @@
 -- Whole amperes below 2 ^ 53, as `query` gives them, are printed as themselves.
-use mathlib.Core.Path.{_≡_, sym, ap, _∙_}
-use mathlib.Core.Bool.{true, false, true≢false}
-use Prim.Native.Nat.{ℕ, _+_, _*_, _/_, _^_, _≤_, _<_}
+use mathlib.Core.Path.{_≡_, refl, sym, ap, _∙_}
+use mathlib.Core.Bool.{Bool, true, false, cond, true≢false}
+use Prim.Native.Nat.{ℕ, _+_, _*_, _-_, _/_, _^_, _≤_, _<_}
 use native.Mathlib.Nat.{mul-one, mul-div-cancel, mul-lt-mul-of-pos-right}
 use native.Mathlib.Omega.{arith}
 use borrow.Author.Tests.{lt-ltb}
+use lib.Dec.{ltb, leb}
 use lib.Ieee.{Float, fin, lt, toUnsigned, up, down}
 use lib.Ieee.Fits.{down-pos}
 use lib.Ieee.Exact.{HasValue}
 use Rattle.enclosure.specs.Units.{ofNat, exact}
-use Rattle.printing.specs.Printed.{wholeOf}
+use Rattle.network.specs.declared.Amperes.{Amperes}
+use Rattle.network.specs.Demand as demand
+use Rattle.network.specs.Demand.{Figures}
+use Rattle.network.specs.declared.Verdict.the-variants.{Within, Over, Close}
+use Rattle.network.specs.Verdict.{verdictOn}
+use Rattle.printing.specs.Printed.{wholeOf, amountOf, amountOn, amperesText, figuresText}
 
 value-whole : (x : Float) (n : ℕ) → n < 2 ^ 64 → HasValue x false n 1 → wholeOf x ≡ n
 unfolding lt toUnsigned
@@ -23,3 +29,36 @@ value-whole (fin false m e) n h v =
 
 pub whole-printed : (n : ℕ) → n ≤ 2 ^ 53 → wholeOf (ofNat n) ≡ n
 whole-printed n h = value-whole (ofNat n) n (omega arith) (exact n h)
+
+-- six amperes that are whole numbers
+pub amperes-printed : (a : Amperes) (f : Figures) → demand.Whole a f → amperesText a ≡ figuresText f
+unfolding amperesText figuresText
+amperes-printed a f w =
+    rw (
+      w .lower,
+      w .upper,
+      w .«converters_lower»,
+      w .«converters_upper»,
+      w .peak,
+      w .«converters_peak»,
+      whole-printed (f .lower) (omega (arith, w .lowers-small)),
+      whole-printed (f .upper) (omega (arith, w .uppers-small)),
+      whole-printed (f .«converters_lower») (omega (arith, w .lowers-small)),
+      whole-printed (f .«converters_upper») (omega (arith, w .uppers-small)),
+      whole-printed (f .peak) (omega (arith, w .peaks-small)),
+      whole-printed (f .«converters_peak») (omega (arith, w .peaks-small)),
+    )
+
+-- and a verdict's amperes
+pub amount-printed : (L U P rating peakRating : ℕ) → L ≤ 2 ^ 53 → P ≤ 2 ^ 53 → rating ≤ 2 ^ 53
+    → wholeOf (amountOf (verdictOn L U P rating peakRating)) ≡ amountOn L U P rating peakRating
+unfolding lt toUnsigned
+amount-printed L U P rating peakRating hl hp hr = go (ltb peakRating P) (ltb rating L) (leb U rating)
+  where
+    go : (a b c : Bool)
+        → wholeOf (amountOf (cond a (Over (ofNat (P - peakRating))) (cond b (Over (ofNat (L - rating))) (cond c (Within (ofNat (rating - U))) Close))))
+        ≡ cond a (P - peakRating) (cond b (L - rating) (cond c (rating - U) 0))
+    go true b c = whole-printed (P - peakRating) (omega arith)
+    go false true c = whole-printed (L - rating) (omega arith)
+    go false false true = whole-printed (rating - U) (omega arith)
+    go false false false = refl
