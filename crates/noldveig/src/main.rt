@@ -1,8 +1,13 @@
-// A study as text on standard input; on standard output a line for each bus, or the number and the row of a refusal.
+// A study as text on standard input; on standard output a line for each bus, or the number and the row of a refusal. All that is printed
+// is laid into one array and written at once, so that it is one definition of the text.
 ghost use mathlib.Core.Path.{_≡_};
+ghost use mathlib.Core.List.{_++_};
+ghost use Prim.Native.Nat.{_+_, _*_, _≤_};
 ghost use lib.ListN.{length, take};
+ghost use Rattle.network.specs.Network.{maxBuses, network};
+ghost use Rattle.reader.specs.File.{readOf};
 ghost use Rattle.printing.specs.Line.{room};
-ghost use Rattle.noldveig.specs.Rows.{busRow, refusalRow};
+ghost use Rattle.noldveig.specs.Rows.{busRow, refusalRow, boardText, printed};
 use libc::STDIN_FILENO;
 use libc::STDOUT_FILENO;
 use network::BUSES;
@@ -20,6 +25,9 @@ use printing::written;
 
 // One byte more than a text may have, so that a longer one is seen to be longer.
 const TEXT: usize = 65_537;
+
+// Room for the rows of all buses.
+const OUTPUT: usize = BUSES * LINE;
 
 // Puts the row of a refusal at the start of the line, and gives its length. What is required is what the type says: of an array
 // behind a reference the prover does not know the length by itself.
@@ -45,41 +53,77 @@ fn put_bus(line: &mut [u8; LINE], bus: u32, found: Found) -> usize
     put(line, letter, b"\r\n")
 }
 
-fn print_refusal(number: u32, row: u32) {
+// Lays bytes into the output from a place on, and gives the place behind them.
+fn lay(out: &mut [u8], at: usize, bytes: &[u8]) -> usize
+    requires { ⌜ at + length (now bytes) ≤ length (now out) ⌝ }
+    ensures place { λ r. ⌜ r ≡ at + length (now (bytes .entry)) ⌝ }
+    ensures text { λ r. ⌜ take r (now (out .exit)) ≡ take at (now (out .entry)) ++ now (bytes .entry) ⌝ }
+{
+    let mut i: usize = 0;
+    while i < bytes.len() {
+        out[at + i] = bytes[i];
+        i += 1;
+    }
+    at + i
+}
+
+// Lays the row of a refusal at the start of the output, and gives the place behind it.
+fn lay_refusal(out: &mut [u8], number: u32, row: u32) -> usize
+    requires { ⌜ room ≤ length (now out) ⌝ }
+    ensures place { λ r. ⌜ r ≤ room ⌝ }
+    ensures text { λ r. ⌜ take r (now (out .exit)) ≡ refusalRow number row ⌝ }
+{
     let mut line = [0u8; LINE];
     let end = put_refusal(&mut line, number, row);
-    io::write_all(STDOUT_FILENO, written(&line, end));
+    lay(out, 0, written(&line, end))
 }
 
-fn print_bus(bus: u32, found: Found) {
+// Lays the row of a bus from a place on, and gives the place behind it.
+fn lay_bus(out: &mut [u8], at: usize, bus: u32, found: Found) -> usize
+    requires { ⌜ at + room ≤ length (now out) ⌝ }
+    ensures place { λ r. ⌜ r ≤ at + room ⌝ }
+    ensures text { λ r. ⌜ take r (now (out .exit)) ≡ take at (now (out .entry)) ++ busRow bus (found .amperes) (found .verdict) ⌝ }
+{
     let mut line = [0u8; LINE];
     let end = put_bus(&mut line, bus, found);
-    io::write_all(STDOUT_FILENO, written(&line, end));
+    lay(out, at, written(&line, end))
 }
 
-// The rows of all buses, from one board.
-fn print_buses(s: Study) {
+// Lays the rows of all buses, from one board.
+fn lay_board(out: &mut [u8], s: Study) -> usize
+    requires { ⌜ maxBuses * room ≤ length (now out) ⌝ }
+    ensures place { λ r. ⌜ r ≤ maxBuses * room ⌝ }
+    ensures text { λ r. ⌜ take r (now (out .exit)) ≡ boardText (network s) ⌝ }
+{
     let total = bus_total(s);
     let rows = query_all(s);
+    let mut at: usize = 0;
     let mut b: usize = 0;
-    while (b < total) & (b < BUSES) {
-        print_bus(b as u32, rows[b]);
+    while b < total {
+        at = lay_bus(out, at, b as u32, rows[b]);
         b += 1;
     }
+    at
 }
 
-fn answer(text: &[u8]) {
+// Lays what the program prints of a text, and gives the place behind it.
+fn answer(text: &[u8], out: &mut [u8]) -> usize
+    requires { ⌜ maxBuses * room ≤ length (now out) ⌝ }
+    ensures place { λ r. ⌜ r ≤ maxBuses * room ⌝ }
+    ensures text { λ r. ⌜ take r (now (out .exit)) ≡ printed (readOf (now (text .entry))) ⌝ }
+{
     let reading = reader::read(text);
     if reading.number == 0 {
         let study = reading.study;
-        print_buses(study);
-    } else {
-        print_refusal(reading.number, reading.row);
+        return lay_board(out, study);
     }
+    lay_refusal(out, reading.number, reading.row)
 }
 
 fn main() {
     let mut text = [0u8; TEXT];
+    let mut out = [0u8; OUTPUT];
     let n = io::read_full(STDIN_FILENO, &mut text);
-    answer(&text[..n]);
+    let end = answer(&text[..n], &mut out);
+    io::write_all(STDOUT_FILENO, &out[..end]);
 }

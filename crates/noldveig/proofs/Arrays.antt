@@ -1,0 +1,16 @@
+-- Arrays as lists: their length, and what is read from them.
+use mathlib.Core.Path.{_≡_, refl, sym, _∙_}
+use mathlib.Core.List.{List, [], _∷_, map}
+use Prim.Native.Nat.{ℕ, zero, suc, _<_}
+use native.Mathlib.Omega.{arith}
+use lib.ListN.{length, getD, length-map}
+
+-- the length of an array in a struct, from what owning the struct tells of its list of data tuples
+pub length-mapped : {X Y : Type 0} (f : X → Y) (l : List X) (n : ℕ) → length (map f l) ≡ n → length l ≡ n
+length-mapped f l n e = sym (length-map l f) ∙ e
+
+-- within an array it does not matter what would be read past its end
+pub read-within : {X : Type 0} (l : List X) (i : ℕ) (d e : X) → i < length l → getD l i d ≡ getD l i e
+read-within [] i d e h = absurd (omega arith)
+read-within (x ∷ l) zero d e h = refl
+read-within (x ∷ l) (suc i) d e h = read-within l i d e (omega arith)
