@@ -44,9 +44,21 @@ NO_CALLS = [
     "read",
     "read,0",
     "read,0g",
+    "read,0/",
+    "read,0:",
+    "read,0@",
+    "read,0G",
+    "read,0`",
     "Start,6",
     "S,6",
 ]
+
+
+class Capitals(bytes):
+    """A text that the console gets in capital hexadecimal digits."""
+
+    def hex(self):
+        return super().hex().upper()
 
 
 def as_calls(rows):
@@ -124,7 +136,7 @@ def files_between():
     found += [("start", 10), ("bus", BASE[0][1]), ("read", SMALL), *queries(1)]
     found += [("read", SMALL + b"x"), ("query", 0), ("close",), *BUILD_LOW]
     found += [("read", TEXT.replace(b"S,6", b"S,10")), *queries(3), ("read", TEXT), *queries(3)]
-    return found
+    return found + [("read", Capitals(SMALL + b"\xab\xcd\xef")), ("read", Capitals(TEXT)), *queries(3)]
 
 
 def full_tables():
