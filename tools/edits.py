@@ -1,4 +1,4 @@
-"""The must-fail edits: wrong programs and false laws, each of which the prover must refuse because its proof no longer goes through.
+"""The must-fail edits: wrong programs and false laws, each of which the prover must refuse because a proof no longer goes through.
 
 A refusal shows that and no more: the prover cannot tell a false fact from one that needs another proof. Whether an edit changes an answer
 is for tools/confirm-edits to say.
@@ -155,7 +155,7 @@ def try_crate(name, edits):
         for edit in edits if sound else []:
             began = time.monotonic()
             reasons.append((edit, misplaced(edit) or try_edit(folder, name, edit)))
-            print(f"must-fail quick {name}/{edit.stem}: {reasons[-1][1] or 'refused for a fact'} ({time.monotonic() - began:.1f} s)")
+            print(f"must-fail quick {name}/{edit.stem}: {reasons[-1][1] or 'refused, a proof no longer goes through'} ({time.monotonic() - began:.1f} s)")
         if not sound or not PROVED.search(develop(folder, name)):
             reasons = [(edit, "rt dev does not prove the crate without the edit") for edit in edits]
     return reasons
