@@ -2,7 +2,7 @@
 -- refuses with 23 or 24 at the first row that it has no room for. Assumes nothing.
 use Prim.Native.Nat.{ℕ, _+_, _≤_, _<_}
 use mathlib.Core.Path.{_≡_, refl, sym, _∙_, ap, subst}
-use mathlib.Core.Bool.{Bool, true, false, cond, _&&_, _||_}
+use mathlib.Core.Bool.{Bool, true, false, not, cond, _&&_, _||_}
 use mathlib.Core.List.{List, [], _∷_, _++_}
 use mathlib.Core.Logic.{_⊎_, inl, inr}
 use native.Mathlib.Omega.{arith}
@@ -14,42 +14,57 @@ use Rattle.network.specs.declared.Bus.{Bus}
 use Rattle.network.specs.declared.Source.{Source}
 use Rattle.network.specs.Network.{Network, Limits}
 use Rattle.network.specs.Records.{within}
-use Rattle.network.specs.Grounds.{addBusGroundsIn, busNumberIn, afterBusIn, addSourceGroundsIn, sourceNumberIn, afterSourceIn}
+use Rattle.network.specs.Grounds.{first, busGrounds, busNumberIn, afterBusIn, sourceGrounds, sourceNumberIn, afterSourceIn}
 use Rattle.network.specs.Calls.{emptyNetwork}
 use Rattle.network.specs.Booleans.{by-test, both-true}
-use Rattle.network.specs.Acceptance.{passed, accepted}
 use Rattle.reader.specs.declared.Row.{Row}
 use Rattle.reader.specs.declared.Row.the-variants.{Start, WithBus, WithSource, Malformed}
 use Rattle.reader.specs.File.{maxBytes, comma, letterS, letterB, letterP, busFields, sourceFields, rows, fields, allNumbers, amounts, recordOf, fieldsRow, rowOf, rowNumberIn, afterRowIn, Outcome, refusedAt, readFromIn, readIn}
 use Rattle.reader.specs.Editions.{Raised, lettered, tooMany, surplusAfter, firstSurplus, MetAt}
 
 -- ---- one record, tried by two editions
+-- a call is tried for its state, for room, and then for its record
+in-turn : (state room : Bool) (number full shut : ℕ) → 0 < full → 0 < shut → cond state (cond room number full) shut ≡ 0
+    → (state ≡ true) × ((room ≡ true) × (number ≡ 0))
+in-turn true true x k l p q e = (refl, (refl, e))
+in-turn true false x k l p q e = absurd (omega arith)
+in-turn false r x k l p q e = absurd (omega arith)
+
+bus-turn : (L : Limits) (n : Network) (b : Bus) → busNumberIn L n b ≡ 0
+    → (not (n .closed) ≡ true) × ((ltb (length (n .buses)) (L .buses) ≡ true) × (first (busGrounds (n .buses ++ (b ∷ [])) (length (n .buses))) ≡ 0))
+unfolding busNumberIn
+bus-turn L n b e = in-turn (not (n .closed)) (ltb (length (n .buses)) (L .buses)) (first (busGrounds (n .buses ++ (b ∷ [])) (length (n .buses)))) 23 21 (omega arith) (omega arith) e
+
+source-turn : (L : Limits) (n : Network) (p : Source) → sourceNumberIn L n p ≡ 0
+    → (not (n .closed) ≡ true) × ((ltb (length (n .sources)) (L .sources) ≡ true) × (first (sourceGrounds (n .buses) (length (n .sources)) p) ≡ 0))
+unfolding sourceNumberIn
+source-turn L n p e = in-turn (not (n .closed)) (ltb (length (n .sources)) (L .sources)) (first (sourceGrounds (n .buses) (length (n .sources)) p)) 24 21 (omega arith) (omega arith) e
+
+bus-room : (L : Limits) (n : Network) (b : Bus) → busNumberIn L n b ≡ 0 → length (n .buses) < L .buses
+bus-room L n b e = ltb-true (length (n .buses)) (L .buses) (bus-turn L n b e .1 .0)
+
+source-room : (L : Limits) (n : Network) (p : Source) → sourceNumberIn L n p ≡ 0 → length (n .sources) < L .sources
+source-room L n p e = ltb-true (length (n .sources)) (L .sources) (source-turn L n p e .1 .0)
+
+-- what M accepts
 module _ (L M : Limits) (n : Network) where
   -- with room in L
-  bus-room : (b : Bus) → busNumberIn L n b ≡ 0 → length (n .buses) < L .buses
-  unfolding busNumberIn
-  bus-room b e = ltb-true (length (n .buses)) (L .buses) (passed (addBusGroundsIn L n b) refl e .1 .0)
-
   bus-also : (b : Bus) → busNumberIn M n b ≡ 0 → length (n .buses) < L .buses → busNumberIn L n b ≡ 0
   unfolding busNumberIn
-  bus-also b e h = let p = passed (addBusGroundsIn M n b) refl e in accepted (addBusGroundsIn L n b) (p .0, (lt-ltb (length (n .buses)) (L .buses) h, p .1 .1))
+  bus-also b e h = let t = bus-turn M n b e in rw (t .0, lt-ltb (length (n .buses)) (L .buses) h) (t .1 .1)
+
+  source-also : (p : Source) → sourceNumberIn M n p ≡ 0 → length (n .sources) < L .sources → sourceNumberIn L n p ≡ 0
+  unfolding sourceNumberIn
+  source-also p e h = let t = source-turn M n p e in rw (t .0, lt-ltb (length (n .sources)) (L .sources) h) (t .1 .1)
 
   -- without
   bus-full : (b : Bus) → busNumberIn M n b ≡ 0 → L .buses ≤ length (n .buses) → busNumberIn L n b ≡ 23
   unfolding busNumberIn
-  bus-full b e h = let p = passed (addBusGroundsIn M n b) refl e in rw (p .0, le-ltb (length (n .buses)) (L .buses) h)
-
-  source-room : (p : Source) → sourceNumberIn L n p ≡ 0 → length (n .sources) < L .sources
-  unfolding sourceNumberIn
-  source-room p e = ltb-true (length (n .sources)) (L .sources) (passed (addSourceGroundsIn L n p) refl e .1 .0)
-
-  source-also : (p : Source) → sourceNumberIn M n p ≡ 0 → length (n .sources) < L .sources → sourceNumberIn L n p ≡ 0
-  unfolding sourceNumberIn
-  source-also p e h = let t = passed (addSourceGroundsIn M n p) refl e in accepted (addSourceGroundsIn L n p) (t .0, (lt-ltb (length (n .sources)) (L .sources) h, t .1 .1))
+  bus-full b e h = rw (bus-turn M n b e .0, le-ltb (length (n .buses)) (L .buses) h)
 
   source-full : (p : Source) → sourceNumberIn M n p ≡ 0 → L .sources ≤ length (n .sources) → sourceNumberIn L n p ≡ 24
   unfolding sourceNumberIn
-  source-full p e h = let t = passed (addSourceGroundsIn M n p) refl e in rw (t .0, le-ltb (length (n .sources)) (L .sources) h)
+  source-full p e h = rw (source-turn M n p e .0, le-ltb (length (n .sources)) (L .sources) h)
 
   -- both editions leave the same network where both accept
   row-after : (said : Row) → rowNumberIn L n said ≡ 0 → rowNumberIn M n said ≡ 0 → afterRowIn M n said ≡ afterRowIn L n said
@@ -62,8 +77,8 @@ module _ (L M : Limits) (n : Network) where
 -- a larger edition accepts what a smaller one accepts
 row-raised : (L M : Limits) → Raised L M → (n : Network) (said : Row) → rowNumberIn L n said ≡ 0 → rowNumberIn M n said ≡ 0
 row-raised L M h n (Start t) e = e
-row-raised L M h n (WithBus b) e = bus-also M L n b e (le-trans (bus-room L M n b e) (h .buses))
-row-raised L M h n (WithSource p) e = source-also M L n p e (le-trans (source-room L M n p e) (h .sources))
+row-raised L M h n (WithBus b) e = bus-also M L n b e (le-trans (bus-room L n b e) (h .buses))
+row-raised L M h n (WithSource p) e = source-also M L n p e (le-trans (source-room L n p e) (h .sources))
 row-raised L M h n Malformed e = e
 
 -- ---- reading row by row
@@ -107,12 +122,12 @@ module _ (L M : Limits) (raised : Raised L M) where
 
 -- ---- the letter that a row begins with, by what it says
 abbrev Begins : Bool → List ℕ → Row → Type 0
-Begins first r (Start t) = (first ≡ true) × (getD r 0 0 ≡ letterS)
-Begins first r (WithBus b) = getD r 0 0 ≡ letterB
-Begins first r (WithSource p) = getD r 0 0 ≡ letterP
-Begins first r Malformed = Unit
+Begins top r (Start t) = (top ≡ true) × (getD r 0 0 ≡ letterS)
+Begins top r (WithBus b) = getD r 0 0 ≡ letterB
+Begins top r (WithSource p) = getD r 0 0 ≡ letterP
+Begins top r Malformed = Unit
 
-record-begins : (first : Bool) (letter : ℕ) (v r : List ℕ) → getD r 0 0 ≡ letter → Begins first r (recordOf first letter v)
+record-begins : (top : Bool) (letter : ℕ) (v r : List ℕ) → getD r 0 0 ≡ letter → Begins top r (recordOf top letter v)
 unfolding recordOf
 record-begins true letter v r e =
     by-test (eqb letter letterS && eqb (length v) 1)
@@ -126,15 +141,15 @@ record-begins false letter v r e =
     (λ u. rw u (e ∙ eqb-true letter letterP (both-true (eqb letter letterP) (eqb (length v) sourceFields) u .0)))
     (λ u. rw u tt)))
 
-row-begins : (first : Bool) (r : List ℕ) → Begins first r (rowOf first r)
+row-begins : (top : Bool) (r : List ℕ) → Begins top r (rowOf top r)
 unfolding rowOf fieldsRow
-row-begins first [] = tt
-row-begins first (letter ∷ []) = tt
-row-begins first (letter ∷ b ∷ rest) =
+row-begins top [] = tt
+row-begins top (letter ∷ []) = tt
+row-begins top (letter ∷ b ∷ rest) =
     by-test (eqb b comma)
     (λ t. rw t
     (by-test (allNumbers (fields rest))
-    (λ u. rw u (record-begins first letter (amounts (fields rest)) (letter ∷ b ∷ rest) refl))
+    (λ u. rw u (record-begins top letter (amounts (fields rest)) (letter ∷ b ∷ rest) refl))
     (λ u. rw u tt)))
     (λ t. rw t tt)
 
@@ -220,8 +235,8 @@ none-counted L = record { buses = refl; sources = refl; buses-fit = omega arith;
 row-counted : (L : Limits) (i : ℕ) (n : Network) (before : List (List ℕ)) (r : List ℕ) → i ≡ length before → Counted L n before
     → (said : Row) → Begins (eqb i 0) r said → rowNumberIn L n said ≡ 0 → Counted L (afterRowIn L n said) (before ++ (r ∷ []))
 row-counted L i n before r at c (Start t) q e = start-counted L n before r t (omega (arith, eqb-true i 0 (q .0))) (q .1)
-row-counted L i n before r at c (WithBus b) q e = bus-counted L n before r c b e (bus-room L L n b e) q
-row-counted L i n before r at c (WithSource p) q e = source-counted L n before r c p e (source-room L L n p e) q
+row-counted L i n before r at c (WithBus b) q e = bus-counted L n before r c b e (bus-room L n b e) q
+row-counted L i n before r at c (WithSource p) q e = source-counted L n before r c p e (source-room L n p e) q
 row-counted L i n before r at c Malformed q e = absurd (omega arith)
 
 -- ---- a file that an edition accepts has no surplus row for it
