@@ -18,23 +18,25 @@ use crate::words::after;
 use crate::words::begins;
 use crate::words::is;
 use network::Study;
-use reader::BUS_FIELDS;
+use reader::MOST_FIELDS;
 use reader::Numbers;
-use reader::SOURCE_FIELDS;
+use reader::bus_count_ok;
 use reader::bus_of;
 use reader::numbers_of;
+use reader::source_count_ok;
 use reader::source_of;
 
-// Whether these are so many numbers; says what is wrong where they are not. An eleventh field is one too many, whatever it says.
-fn takes(n: Numbers, wanted: usize) -> bool {
+// Whether these are numbers, and so many as fit the call; says what is wrong where they are not. A field more than any row has is one
+// too many, whatever it says.
+fn takes(n: Numbers, fit: bool) -> bool {
     if n.ok {
-        if n.count == wanted {
+        if fit {
             return true;
         }
         print_error(b"fields");
         return false;
     }
-    if n.count == BUS_FIELDS {
+    if n.count == MOST_FIELDS {
         print_error(b"fields");
     } else {
         print_error(b"number");
@@ -45,7 +47,7 @@ fn takes(n: Numbers, wanted: usize) -> bool {
 fn make_start(s: Study, rest: &[u8]) -> Study {
     let n = numbers_of(rest);
     let v = n.values;
-    if takes(n, 1) {
+    if takes(n, n.count == 1) {
         let done = network::start(v[0]);
         print_number(done.number);
         return done.study;
@@ -56,7 +58,7 @@ fn make_start(s: Study, rest: &[u8]) -> Study {
 fn make_bus(s: Study, rest: &[u8]) -> Study {
     let n = numbers_of(rest);
     let v = n.values;
-    if takes(n, BUS_FIELDS) {
+    if takes(n, bus_count_ok(n.count)) {
         let done = network::add_bus(s, bus_of(v));
         print_number(done.number);
         return done.study;
@@ -67,7 +69,7 @@ fn make_bus(s: Study, rest: &[u8]) -> Study {
 fn make_source(s: Study, rest: &[u8]) -> Study {
     let n = numbers_of(rest);
     let v = n.values;
-    if takes(n, SOURCE_FIELDS) {
+    if takes(n, source_count_ok(n.count)) {
         let done = network::add_source(s, source_of(v));
         print_number(done.number);
         return done.study;
@@ -88,7 +90,7 @@ fn make_query(s: Study, rest: &[u8]) -> Study
 {
     let n = numbers_of(rest);
     let v = n.values;
-    if takes(n, 1) {
+    if takes(n, n.count == 1) {
         let found = network::query(s, v[0]);
         print_found(found);
     }
@@ -131,7 +133,7 @@ fn make_write(s: Study, rest: &[u8], text: &mut [u8]) -> Study
 {
     let n = numbers_of(rest);
     let v = n.values;
-    if takes(n, 1) {
+    if takes(n, n.count == 1) {
         let count = v[0] as usize;
         if count <= text.len() {
             write_into(s, &mut text[0..count]);
