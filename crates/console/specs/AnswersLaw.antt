@@ -29,7 +29,7 @@ figuresLine n b f =
     decimal 0 ++ figuresText f ++ letterText (verdictOn L U P rating peakRating) ++ nextText (amountOn L U P rating peakRating) ++ (lf ∷ [])
 
 -- what `query` promises of a bus that is there
-pub line-holds : (cs : List Call) (b : ℕ) → b < length (run cs .buses) → (f : Found) (k : Kept cs b f) → foundLine f ≡ figuresLine (run cs) b (k .demand .figures)
+pub line-holds : (cs : List Call) (b : ℕ) → b < length (run cs .buses) → (f : Found) (k : Kept (run cs) b f) → foundLine f ≡ figuresLine (run cs) b (k .demand .figures)
 unfolding foundLine
 line-holds cs b l f k =
     let g = k .demand .figures in

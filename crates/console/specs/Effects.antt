@@ -9,7 +9,7 @@ use Rattle.network.specs.Network.{Network, network}
 use Rattle.network.specs.Grounds.{startNumber, startNetwork, busNumber, afterBus, sourceNumber, afterSource, closeNumber, afterClose}
 use Rattle.network.specs.QueryAll.{foundGiven}
 use Rattle.reader.specs.declared.Numbers.{Numbers}
-use Rattle.reader.specs.File.{busFields, sourceFields, fields, busOf, sourceOf, Outcome, readOf}
+use Rattle.reader.specs.File.{busFields, sourceFields, mostFields, fields, busOf, sourceOf, Outcome, readOf}
 use Rattle.reader.specs.Gathered.{gathered}
 use Rattle.writer.specs.Writing.{writeNumber, writeLength, afterWrite}
 use Rattle.console.specs.declared.turns.Reason.{Reason}
@@ -59,7 +59,7 @@ abbrev pub counted : Numbers → ℕ → Bool
 counted v wanted = v .ok && eqb (v .count) wanted
 
 abbrev pub reasonOf : Numbers → Reason
-reasonOf v = cond (v .ok || eqb (v .count) busFields) Fields Number
+reasonOf v = cond (v .ok || eqb (v .count) mostFields) Fields Number
 
 unfoldable pub numbered : ℕ → (List ℕ → Effect) → Network → Numbers → Effect
 numbered wanted call n v = cond (counted v wanted) (call (v .values)) (wrong (reasonOf v) n)

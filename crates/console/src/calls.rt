@@ -22,6 +22,7 @@ use crate::words::begins;
 use crate::words::is;
 use network::Study;
 use reader::BUS_FIELDS;
+use reader::MOST_FIELDS;
 use reader::Numbers;
 use reader::SOURCE_FIELDS;
 use reader::bus_of;
@@ -36,11 +37,11 @@ fn takes(n: Numbers, wanted: usize) -> bool
     n.ok & (n.count == wanted)
 }
 
-// What is wrong where they are not. An eleventh field is one too many, whatever it says.
+// What is wrong where they are not. A field more than any row has is one too many, whatever it says.
 fn reason_of(n: Numbers) -> Reason
     ensures { λ r. ⌜ r ≡ reasonOf n ⌝ }
 {
-    if n.ok | (n.count == BUS_FIELDS) {
+    if n.ok | (n.count == MOST_FIELDS) {
         return Reason::Fields;
     }
     Reason::Number

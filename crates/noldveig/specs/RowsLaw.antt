@@ -6,7 +6,6 @@ use mathlib.Core.List.{List, _++_}
 use native.Mathlib.Omega.{arith}
 use lib.ListN.{length}
 use Rattle.network.specs.declared.Amperes.{Amperes}
-use Rattle.network.specs.declared.Found.{Found}
 use Rattle.network.specs.declared.Verdict.{Verdict}
 use Rattle.network.specs.Network.{Network, maxBuses, busAt}
 use Rattle.network.specs.Calls.{run}
@@ -48,9 +47,8 @@ module _ (text : List ℕ) (e : readOf text .number ≡ 0) (b : ℕ) (l : b < le
   given : rowAt (rowsGiven (readOf text .network)) b ≡ foundGiven (readOf text .network) b
   given = row-given (readOf text .network) (rowsGiven (readOf text .network)) refl b there
 
-  kept : Kept (calls text) b (rowAt (rowsGiven (readOf text .network)) b)
-  unfolding foundGiven
-  kept = read-kept text e b l _ (ap (λ (f : Found). f .number) given) (ap (λ (f : Found). f .amperes) given) (ap (λ (f : Found). f .verdict) given)
+  kept : Kept (run (calls text)) b (rowAt (rowsGiven (readOf text .network)) b)
+  kept = read-kept text e b l _ given
 
   -- FROM THE BYTES TO THE ROW: of an accepted text, what `put_bus` makes of the answer that `query_all` has at the place of bus b
   pub row-holds : let f = rowAt (rowsGiven (readOf text .network)) b in RowHolds (run (calls text)) b (f .amperes) (busRow b (f .amperes) (f .verdict))

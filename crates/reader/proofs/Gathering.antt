@@ -8,18 +8,18 @@ use borrow.Author.Tests.{le-leb, lt-leb}
 use lib.Dec.{leb·zero}
 use lib.ListN.{length, drop, set, replicate, length-set, length-replicate, length-drop}
 use Rattle.reader.specs.declared.Number.the-variants.{Value, Broken}
-use Rattle.reader.specs.File.{busFields, fields, numberOf}
+use Rattle.reader.specs.File.{mostFields, fields, numberOf}
 use Rattle.reader.specs.Stretches.{atComma, stretch, before-le, fieldsFrom, from-step, length-stretch}
 use Rattle.reader.specs.Gathered.{counted, gather, gathered}
 
 pub record Progress (row values : List ℕ) (count at : ℕ) : Type 0 where
   pub place : at ≤ length row + 1
-  pub few : count ≤ busFields
-  pub whole : length values ≡ busFields
+  pub few : count ≤ mostFields
+  pub whole : length values ≡ mostFields
   pub left : gather (fieldsFrom row at) count values ≡ gathered (fields row)
 
-pub begun : (row : List ℕ) → Progress row (replicate busFields 0) 0 0
-begun row = record { place = omega arith; few = omega arith; whole = length-replicate {A = ℕ} busFields 0; left = rw (leb·zero (length row)) }
+pub begun : (row : List ℕ) → Progress row (replicate mostFields 0) 0 0
+begun row = record { place = omega arith; few = omega arith; whole = length-replicate {A = ℕ} mostFields 0; left = rw (leb·zero (length row)) }
 
 module _ {row values : List ℕ} {count at : ℕ} (p : Progress row values count at) where
   -- after the last field
@@ -37,13 +37,13 @@ module _ {row values : List ℕ} {count at : ℕ} (p : Progress row values count
     pub broken : numberOf part ≡ Broken → counted false count values ≡ gathered (fields row)
     broken n = rw (rest, n) at (p .left)
 
-    pub full : (n : ℕ) → numberOf part ≡ Value n → busFields ≤ count → counted false count values ≡ gathered (fields row)
-    full n v k = rw (rest, v, le-leb busFields count k) at (p .left)
+    pub full : (n : ℕ) → numberOf part ≡ Value n → mostFields ≤ count → counted false count values ≡ gathered (fields row)
+    full n v k = rw (rest, v, le-leb mostFields count k) at (p .left)
 
-    pub more : (n : ℕ) → numberOf part ≡ Value n → count < busFields → Progress row (set values count n) (count + 1) (at + length part + 1)
+    pub more : (n : ℕ) → numberOf part ≡ Value n → count < mostFields → Progress row (set values count n) (count + 1) (at + length part + 1)
     more n v k = record {
       place = omega (arith, within-row);
       few = omega arith;
       whole = length-set values count n ∙ p .whole;
-      left = rw (rest, v, lt-leb busFields count k) at (p .left);
+      left = rw (rest, v, lt-leb mostFields count k) at (p .left);
     }

@@ -4,56 +4,49 @@ use mathlib.Core.Bool.{Bool, true, false, _&&_}
 use mathlib.Core.List.{List, [], _∷_}
 use Prim.Native.Nat.{ℕ, _≤_, _<_}
 use native.Mathlib.Omega.{arith}
-use borrow.Author.Tests.{eq-eqb, ne-eqb, eqb-true, leb-false}
-use lib.Dec.{leb, eqb}
-use lib.ListN.{length, take, drop, getD}
-use lib.Seq.{length-take-le, take-all, getD-take}
+use borrow.Author.Tests.{eq-eqb, ne-eqb, leb-false, ltb-true, ltb-false}
+use lib.Dec.{leb, ltb, eqb}
+use lib.ListN.{length, take, drop, getD, length-take, List·getD-eq-default}
+use lib.Seq.{length-take-le, getD-take}
 use Rattle.network.specs.Booleans.{by-test, both-true}
 use Rattle.reader.specs.declared.Numbers.{Numbers}
 use Rattle.reader.specs.declared.Row.the-variants.{Start, WithBus, WithSource, Malformed}
-use Rattle.reader.specs.File.{busFields, sourceFields, comma, letterS, letterB, letterP, fields, allNumbers, amounts, busOf, sourceOf, recordOf, fieldsRow, rowOf}
-use Rattle.reader.specs.Gathered.{Gathered}
+use Rattle.reader.specs.File.{busFields, sourceFields, mostFields, busCountOk, sourceCountOk, comma, letterS, letterB, letterP, fields, allNumbers, amounts, busOf, sourceOf, recordOf, fieldsRow, rowOf}
+use Rattle.reader.specs.Gathered.{Filled, Gathered}
 
 -- ---- a letter and the first numbers of an array
-same-source : (n : ℕ) (v : List ℕ) → sourceFields ≤ n → sourceOf (take n v) ≡ sourceOf v
-same-source n v h =
-    rw (
-      getD-take n v 0 0 (omega arith),
-      getD-take n v 1 0 (omega arith),
-      getD-take n v 2 0 (omega arith),
-      getD-take n v 3 0 (omega arith),
-      getD-take n v 4 0 (omega arith),
-      getD-take n v 5 0 (omega arith),
-      getD-take n v 6 0 (omega arith),
-    )
+-- zeros behind them are the same as no numbers
+same-at : (n : ℕ) (v : List ℕ) → Filled n v → (i : ℕ) → getD (take n v) i 0 ≡ getD v i 0
+same-at n v z i =
+    by-test (ltb i n)
+    (λ t. getD-take n v i 0 (ltb-true i n t))
+    (λ t. let h = ltb-false i n t in List·getD-eq-default (take n v) 0 (omega (arith, length-take n v)) ∙ sym (z i h))
 
-module _ (letter count : ℕ) (v : List ℕ) (few : count ≤ busFields) (whole : length v ≡ busFields) where
+module _ (letter count : ℕ) (v : List ℕ) (few : count ≤ mostFields) (filled : Filled count v) (whole : length v ≡ mostFields) where
   counted : length (take count v) ≡ count
   counted = length-take-le count v (omega arith)
+
+  same : (i : ℕ) → getD (take count v) i 0 ≡ getD v i 0
+  same = same-at count v filled
 
   pub start-row : (eqb letter letterS && eqb count 1) ≡ true → recordOf true letter (take count v) ≡ Start (getD v 0 0)
   unfolding recordOf
   start-row e =
-      rw (counted, e)
-      (ap Start (getD-take count v 0 0 (omega (arith, eqb-true count 1 (both-true (eqb letter letterS) (eqb count 1) e .1)))))
+      rw (counted, e) (ap Start (same 0))
 
   pub no-start-row : (eqb letter letterS && eqb count 1) ≡ false → recordOf true letter (take count v) ≡ Malformed
   unfolding recordOf
   no-start-row e = rw (counted, e)
 
-  pub bus-row : (eqb letter letterB && eqb count busFields) ≡ true → recordOf false letter (take count v) ≡ WithBus (busOf v)
+  pub bus-row : (eqb letter letterB && busCountOk count) ≡ true → recordOf false letter (take count v) ≡ WithBus (busOf v)
   unfolding recordOf
-  bus-row e =
-      rw (counted, e)
-      (ap (λ (l : List ℕ). WithBus (busOf l)) (take-all count v (omega (arith, eqb-true count busFields (both-true (eqb letter letterB) (eqb count busFields) e .1)))))
+  bus-row e = rw (counted, e, same 0, same 1, same 2, same 3, same 4, same 5, same 6, same 7, same 8, same 9)
 
-  pub source-row : (eqb letter letterB && eqb count busFields) ≡ false → (eqb letter letterP && eqb count sourceFields) ≡ true → recordOf false letter (take count v) ≡ WithSource (sourceOf v)
+  pub source-row : (eqb letter letterB && busCountOk count) ≡ false → (eqb letter letterP && sourceCountOk count) ≡ true → recordOf false letter (take count v) ≡ WithSource (sourceOf v)
   unfolding recordOf
-  source-row b e =
-      rw (counted, b, e)
-      (ap WithSource (same-source count v (omega (arith, eqb-true count sourceFields (both-true (eqb letter letterP) (eqb count sourceFields) e .1)))))
+  source-row b e = rw (counted, b, e, same 0, same 1, same 2, same 3, same 4, same 5, same 6)
 
-  pub no-record-row : (eqb letter letterB && eqb count busFields) ≡ false → (eqb letter letterP && eqb count sourceFields) ≡ false → recordOf false letter (take count v) ≡ Malformed
+  pub no-record-row : (eqb letter letterB && busCountOk count) ≡ false → (eqb letter letterP && sourceCountOk count) ≡ false → recordOf false letter (take count v) ≡ Malformed
   unfolding recordOf
   no-record-row b e = rw (counted, b, e)
 
@@ -66,8 +59,8 @@ last-false : (a : Bool) {b : Bool} → b ≡ false → (a && b) ≡ false
 last-false true e = e
 last-false false e = refl
 
--- more numbers than a bus has are no record
-too-many : (first : Bool) (letter : ℕ) (v : List ℕ) → busFields < length v → recordOf first letter v ≡ Malformed
+-- more numbers than any row has are no record
+too-many : (first : Bool) (letter : ℕ) (v : List ℕ) → mostFields < length v → recordOf first letter v ≡ Malformed
 unfolding recordOf
 too-many true letter v h = rw (last-false (eqb letter letterS) (ne-eqb (length v) 1 (λ e. omega arith)))
 too-many false letter v h =
@@ -80,7 +73,7 @@ module _ (first : Bool) (letter : ℕ) (fs : List (List ℕ)) (r : Numbers) (g :
   pub fields-taken : r .ok ≡ true → fieldsRow first letter fs ≡ recordOf first letter (take (r .count) (r .values))
   unfolding fieldsRow
   fields-taken e =
-      let h = both-true (allNumbers fs) (leb (length fs) busFields) (sym (g .tested) ∙ e) in
+      let h = both-true (allNumbers fs) (leb (length fs) mostFields) (sym (g .tested) ∙ e) in
       rw (h .0, g .same e)
 
   pub fields-broken : r .ok ≡ false → fieldsRow first letter fs ≡ Malformed
@@ -88,8 +81,8 @@ module _ (first : Bool) (letter : ℕ) (fs : List (List ℕ)) (r : Numbers) (g :
   fields-broken e =
       by-test (allNumbers fs)
       (λ t.
-      let k : r .ok ≡ leb (length fs) busFields = rw t at (g .tested) in
-      rw t (too-many first letter (amounts fs) (omega (arith, leb-false (length fs) busFields (sym k ∙ e), length-amounts fs))))
+      let k : r .ok ≡ leb (length fs) mostFields = rw t at (g .tested) in
+      rw t (too-many first letter (amounts fs) (omega (arith, leb-false (length fs) mostFields (sym k ∙ e), length-amounts fs))))
       (λ t. rw t)
 
 -- ---- the bytes of a row

@@ -2,7 +2,7 @@
 -- the outcome of taking them in order.
 use mathlib.Core.Bool.{Bool, true, false, not, cond, _&&_, _||_}
 use mathlib.Core.List.{List, [], _∷_}
-use Prim.Native.Nat.{ℕ, _+_, _*_, _-_, _^_}
+use Prim.Native.Nat.{ℕ, _+_, _*_, _-_, _^_, max}
 use lib.Dec.{ltb, eqb}
 use lib.ListN.{length, getD}
 use Rattle.network.specs.declared.Bus.{Bus}
@@ -18,15 +18,26 @@ use Rattle.reader.specs.declared.Row.{Row}
 use Rattle.reader.specs.declared.Row.the-variants.{Start, WithBus, WithSource, Malformed}
 
 -- ---- the figures of the file's form
--- "up to 65,536 bytes"; "`B,` with ten fields or `P,` with seven"
+-- "up to 65,536 bytes"
 abbrev pub maxBytes : ℕ
 maxBytes = 65536
 
+-- "`B,` with ten fields or `P,` with seven"; and the most that a row of any kind has
 abbrev pub busFields : ℕ
 busFields = 10
 
 abbrev pub sourceFields : ℕ
 sourceFields = 7
+
+abbrev pub mostFields : ℕ
+mostFields = max busFields sourceFields
+
+-- how many numbers make a bus row, and how many a source row
+abbrev pub busCountOk : ℕ → Bool
+busCountOk count = eqb count busFields
+
+abbrev pub sourceCountOk : ℕ → Bool
+sourceCountOk count = eqb count sourceFields
 
 -- the bytes CR, LF, comma, 0, 9, S, B and P
 abbrev pub cr : ℕ
@@ -109,7 +120,8 @@ amounts [] = []
 amounts (f ∷ fs) = amount (numberOf f) ∷ amounts fs
 
 -- ---- records
--- "Bus record, ten fields", in their order
+-- "Bus record, ten fields", in their order. A number that the list does not have is 0, here and in a source record: so is a row filled
+-- that has fewer numbers than the record has fields
 abbrev pub busOf : List ℕ → Bus
 busOf v = record {
   parent = getD v 0 0;
@@ -141,8 +153,8 @@ sourceOf v = record {
 unfoldable pub recordOf : Bool → ℕ → List ℕ → Row
 recordOf true letter v = cond (eqb letter letterS && eqb (length v) 1) (Start (getD v 0 0)) Malformed
 recordOf false letter v =
-    cond (eqb letter letterB && eqb (length v) busFields) (WithBus (busOf v))
-    (cond (eqb letter letterP && eqb (length v) sourceFields) (WithSource (sourceOf v)) Malformed)
+    cond (eqb letter letterB && busCountOk (length v)) (WithBus (busOf v))
+    (cond (eqb letter letterP && sourceCountOk (length v)) (WithSource (sourceOf v)) Malformed)
 
 unfoldable pub fieldsRow : Bool → ℕ → List (List ℕ) → Row
 fieldsRow first letter fs = cond (allNumbers fs) (recordOf first letter (amounts fs)) Malformed

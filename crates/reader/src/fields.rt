@@ -5,7 +5,7 @@ ghost use lib.ListN.{length, drop};
 ghost use Rattle.reader.specs.File.{fields, lengthOk, valueOf, numberOf};
 ghost use Rattle.reader.specs.Stretches.{atComma, before, stretch};
 ghost use Rattle.reader.specs.Gathered.{gathered};
-use crate::BUS_FIELDS;
+use crate::MOST_FIELDS;
 use crate::Number;
 use crate::Numbers;
 
@@ -89,11 +89,11 @@ pub(crate) fn number_of(field: &[u8]) -> Number
     Number::Broken
 }
 
-// The numbers of a row's fields, in order. Not ok where a field is no number or where there are more than a bus has.
+// The numbers of a row's fields, in order. Not ok where a field is no number or where there are more than any row has.
 pub fn numbers_of(row: &[u8]) -> Numbers
     ensures { λ r. ⌜ r ≡ gathered (fields (now (row .entry))) ⌝ }
 {
-    let mut values = [0u32; BUS_FIELDS];
+    let mut values = [0u32; MOST_FIELDS];
     let mut count: usize = 0;
     let mut at: usize = 0;
     while at <= row.len() {
@@ -107,7 +107,7 @@ pub fn numbers_of(row: &[u8]) -> Numbers
                 values,
             };
         };
-        if BUS_FIELDS <= count {
+        if MOST_FIELDS <= count {
             return Numbers {
                 ok: false,
                 count,

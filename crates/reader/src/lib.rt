@@ -18,17 +18,22 @@ use network::add_bus;
 use network::add_source;
 use network::close;
 use network::start;
+pub use rows::bus_count_ok;
 pub use rows::bus_of;
 use rows::row_end;
 use rows::row_of;
+pub use rows::source_count_ok;
 pub use rows::source_of;
 
-// The most bytes that a text may have, and the fields of a bus row and of a source row.
+// The most bytes that a text may have.
 const BYTES: usize = 65_536;
 
+// The fields of a bus row and of a source row, and the most that a row of any kind has.
 pub const BUS_FIELDS: usize = 10;
 
 pub const SOURCE_FIELDS: usize = 7;
+
+pub const MOST_FIELDS: usize = BUS_FIELDS;
 
 // What the bytes of a field say.
 pub enum Number {
@@ -36,11 +41,11 @@ pub enum Number {
     Broken,
 }
 
-// The numbers of a row, in order: those that are counted, where the row is in order.
+// The numbers of a row, in order: those that are counted, where the row is in order, and zeros behind them.
 pub struct Numbers {
     pub ok: bool,
     pub count: usize,
-    pub values: [u32; BUS_FIELDS],
+    pub values: [u32; MOST_FIELDS],
 }
 
 // What a row says: the tolerance of a start, a record, or nothing that the file's form allows.

@@ -2,9 +2,11 @@
 ghost use mathlib.Core.Path.{_≡_};
 ghost use Prim.Native.Nat.{_+_, _≤_, _<_};
 ghost use lib.ListN.{length, take, drop};
-ghost use Rattle.reader.specs.File.{busFields, busOf, sourceOf, recordOf, rowOf};
+ghost use Rattle.reader.specs.File.{mostFields, busCountOk, sourceCountOk, busOf, sourceOf, recordOf, rowOf};
+ghost use Rattle.reader.specs.Gathered.{Filled};
 ghost use Rattle.reader.specs.Stretches.{atCrlf, before};
 use crate::BUS_FIELDS;
+use crate::MOST_FIELDS;
 use crate::Numbers;
 use crate::Row;
 use crate::SOURCE_FIELDS;
@@ -39,8 +41,22 @@ pub(crate) fn row_end(text: &[u8], at: usize) -> usize
     i
 }
 
+// Whether so many numbers make a bus row.
+pub fn bus_count_ok(count: usize) -> bool
+    ensures { λ r. ⌜ r ≡ busCountOk count ⌝ }
+{
+    count == BUS_FIELDS
+}
+
+// Whether so many numbers make a source row.
+pub fn source_count_ok(count: usize) -> bool
+    ensures { λ r. ⌜ r ≡ sourceCountOk count ⌝ }
+{
+    count == SOURCE_FIELDS
+}
+
 // The numbers of a row as a bus record, in its fields' order.
-pub fn bus_of(v: [u32; BUS_FIELDS]) -> Bus
+pub fn bus_of(v: [u32; MOST_FIELDS]) -> Bus
     ensures { λ r. ⌜ r ≡ busOf v ⌝ }
 {
     Bus {
@@ -58,7 +74,7 @@ pub fn bus_of(v: [u32; BUS_FIELDS]) -> Bus
 }
 
 // The first numbers of a row as a source record, in its fields' order.
-pub fn source_of(v: [u32; BUS_FIELDS]) -> Source
+pub fn source_of(v: [u32; MOST_FIELDS]) -> Source
     ensures { λ r. ⌜ r ≡ sourceOf v ⌝ }
 {
     Source {
@@ -75,7 +91,8 @@ pub fn source_of(v: [u32; BUS_FIELDS]) -> Source
 // The record that a letter and the numbers after it give: S and one number in row 1; in any other B or P with the numbers of
 // their records.
 fn record_of(first: bool, letter: u8, n: Numbers) -> Row
-    requires { ⌜ n .count ≤ busFields ⌝ }
+    requires { ⌜ n .count ≤ mostFields ⌝ }
+    requires { ⌜ Filled (n .count) (n .values) ⌝ }
     ensures { λ r. ⌜ r ≡ recordOf first letter (take (n .count) (n .values)) ⌝ }
 {
     let v = n.values;
@@ -85,11 +102,11 @@ fn record_of(first: bool, letter: u8, n: Numbers) -> Row
         }
         return Row::Malformed;
     }
-    if (letter == b'B') & (n.count == BUS_FIELDS) {
+    if (letter == b'B') & bus_count_ok(n.count) {
         let b = bus_of(v);
         return Row::WithBus(b);
     }
-    if (letter == b'P') & (n.count == SOURCE_FIELDS) {
+    if (letter == b'P') & source_count_ok(n.count) {
         let p = source_of(v);
         return Row::WithSource(p);
     }

@@ -42,7 +42,7 @@ shared-slice-read-record-of : tie.Need-shared-slice-read-record-of
 shared-slice-read-record-of c = search needs
 
 record-of-requires : tie.Need-record-of-requires
-record-of-requires c κs = gathered (c .before .before) .few
+record-of-requires c κs = let g = gathered (c .before .before) in (g .few, g .filled)
 
 returns-3 : tie.Need-returns-3
 returns-3 c =
