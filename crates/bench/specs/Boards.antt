@@ -7,11 +7,11 @@ use native.Mathlib.Numerals.{add-one}
 use native.Mathlib.Omega.{arith}
 use lib.ListN.{length}
 use lib.Ieee.{Float, binary64, add}
-use Rattle.network.specs.declared.Found.{Found}
-use Rattle.network.specs.Network.{Network, maxBuses}
-use Rattle.network.specs.Query.{amperesGiven}
-use Rattle.network.specs.QueryAll.{foundGiven, rowsGiven, rowAt}
-use Rattle.network.specs.QueryAllLaw.{row-given}
+use Rattle.network.specs.declared.query.Found.{Found}
+use Rattle.network.specs.Network.{Network}
+use Rattle.network.specs.Network.{maxBuses}
+use Rattle.network.specs.Query.{amperesGiven, foundGiven, rowsGiven, rowAt}
+use Rattle.network.specs.laws.QueryAll.{row-given}
 use Rattle.bench.specs.Queries.{sumOf, sumsOf, sums-more}
 
 -- the figures of the first n rows, added to a total

@@ -5,7 +5,7 @@ use mathlib.Core.Bool.{false}
 use native.Mathlib.Numerals.{add-one}
 use lib.IntN.{pos}
 use lib.Ieee.{Float, fin, binary64, add}
-use Rattle.network.specs.declared.Amperes.{Amperes}
+use Rattle.network.specs.declared.query.Amperes.{Amperes}
 use Rattle.network.specs.Network.{Network}
 use Rattle.network.specs.Query.{amperesGiven}
 

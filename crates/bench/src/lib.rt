@@ -3,19 +3,20 @@
 ghost use mathlib.Core.Path.{_≡_};
 ghost use Prim.Native.Nat.{_<_, _≤_, _+_};
 ghost use Rattle.enclosure.specs.Doubles.{added, inverted, scaled, rootBelow};
-ghost use Rattle.network.specs.Network.{maxBuses, network};
+ghost use Rattle.network.specs.Network.{maxBuses};
+ghost use Rattle.network.specs.Network.{network};
 ghost use Rattle.reader.specs.File.{readOf};
 ghost use Rattle.bench.specs.Boards.{rowsAdded, boardsOf};
 ghost use Rattle.bench.specs.Queries.{sumOf, sumsOf};
 ghost use Rattle.bench.specs.Writes.{writtenTimes};
 use enclosure::Complex;
-use network::Amperes;
-use network::BUSES;
-use network::Found;
-use network::Study;
-use network::bus_total;
-use network::query;
-use network::query_all;
+use network::query::Amperes;
+use network::query::Found;
+use network::query::query;
+use network::query::query_all;
+use network::study::BUSES;
+use network::study::Study;
+use network::study::bus_total;
 use writer::write;
 
 #[no_mangle]

@@ -7,7 +7,7 @@ use lib.Dec.{leb, ltb, eqb}
 use lib.ListN.{length, take, drop, getD, replicate}
 use Rattle.network.specs.Network.{Network, network}
 use Rattle.network.specs.Grounds.{startNumber, startNetwork, busNumber, afterBus, sourceNumber, afterSource, closeNumber, afterClose}
-use Rattle.network.specs.QueryAll.{foundGiven}
+use Rattle.network.specs.Query.{foundGiven}
 use Rattle.reader.specs.declared.Numbers.{Numbers}
 use Rattle.reader.specs.File.{busFields, sourceFields, mostFields, fields, busOf, sourceOf, Outcome, readOf}
 use Rattle.reader.specs.Gathered.{gathered}

@@ -1,6 +1,5 @@
+-- What contracts cite. What is proved of it is below `laws`.
 pub mod Answers
-pub mod AnswersLaw
 pub mod Lines
-pub mod LinesLaw
 pub mod Effects
-pub mod EffectsLaw
+pub mod laws

@@ -12,7 +12,7 @@ use crate::parts::print_written;
 use crate::turns::Reason;
 use crate::turns::Reply;
 use libc::STDOUT_FILENO;
-use network::Found;
+use network::query::Found;
 use printing::LINE;
 use printing::amount;
 use printing::number_of;

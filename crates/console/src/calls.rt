@@ -20,7 +20,7 @@ use crate::turns::failed;
 use crate::words::after;
 use crate::words::begins;
 use crate::words::is;
-use network::Study;
+use network::study::Study;
 use reader::BUS_FIELDS;
 use reader::MOST_FIELDS;
 use reader::Numbers;
@@ -53,7 +53,7 @@ fn make_start(s: Study, rest: &[u8]) -> Turn
     let n = numbers_of(rest);
     let v = n.values;
     if takes(n, 1) {
-        return answered(network::start(v[0]));
+        return answered(network::calls::start(v[0]));
     }
     failed(s, reason_of(n))
 }
@@ -64,7 +64,7 @@ fn make_bus(s: Study, rest: &[u8]) -> Turn
     let n = numbers_of(rest);
     let v = n.values;
     if takes(n, BUS_FIELDS) {
-        return answered(network::add_bus(s, bus_of(v)));
+        return answered(network::calls::add_bus(s, bus_of(v)));
     }
     failed(s, reason_of(n))
 }
@@ -75,7 +75,7 @@ fn make_source(s: Study, rest: &[u8]) -> Turn
     let n = numbers_of(rest);
     let v = n.values;
     if takes(n, SOURCE_FIELDS) {
-        return answered(network::add_source(s, source_of(v)));
+        return answered(network::calls::add_source(s, source_of(v)));
     }
     failed(s, reason_of(n))
 }
@@ -83,7 +83,7 @@ fn make_source(s: Study, rest: &[u8]) -> Turn
 fn make_close(s: Study) -> Turn
     ensures { λ r. ⌜ ((text : List ℕ) → effectOf text r ≡ closeEffect (network s)) ⌝ }
 {
-    answered(network::close(s))
+    answered(network::calls::close(s))
 }
 
 fn make_query(s: Study, rest: &[u8]) -> Turn
@@ -93,7 +93,7 @@ fn make_query(s: Study, rest: &[u8]) -> Turn
     let n = numbers_of(rest);
     let v = n.values;
     if takes(n, 1) {
-        let found = network::query(s, v[0]);
+        let found = network::query::query(s, v[0]);
         return Turn {
             reply: Reply::Found(found),
             study: s,

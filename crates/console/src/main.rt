@@ -17,7 +17,7 @@ use input::Cursor;
 use input::LINE_ROOM;
 use input::bytes_of;
 use input::read_line;
-use network::Study;
+use network::study::Study;
 use turns::Reason;
 use turns::Turn;
 use turns::failed;
@@ -39,7 +39,7 @@ fn main() {
     let mut block = [0u8; input::BLOCK];
     let mut line = [0u8; LINE_ROOM];
     let mut text = [0u8; hex::TEXT];
-    let empty = network::start(6);
+    let empty = network::calls::start(6);
     let mut study = empty.study;
     let mut cursor = Cursor { at: 0, filled: 0 };
     let mut turns = u64::MAX;

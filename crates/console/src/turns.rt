@@ -4,9 +4,9 @@ ghost use Rattle.network.specs.Network.{network};
 ghost use Rattle.console.specs.Effects.{effectOf, wrong, ground};
 ghost use Prim.Native.Nat.{ℕ};
 ghost use mathlib.Core.List.{List};
-use network::Answer;
-use network::Found;
-use network::Study;
+use network::calls::Answer;
+use network::query::Found;
+use network::study::Study;
 
 // Why a line is no call.
 pub(crate) enum Reason {

@@ -1,91 +1,49 @@
--- Document 01, "Factors": c, the sine, ux and f, defined on all numbers, with the laws by which document 01 describes them.
--- Assumes nothing.
-use Prim.Native.Nat.{ℕ, _+_, _-_, _*_, _/_, _≤_, _<_}
-use mathlib.Core.Path.{_≡_}
+-- Document 01, "Factors": c, the sine, ux, f, T and the peak table's K, defined on all numbers. That each is the least or the greatest
+-- that document 01 says is proved in laws/Factors and laws/PeakTable.
+use Prim.Native.Nat.{ℕ, _+_, _-_, _*_, _/_, zero, suc, _^_}
 use mathlib.Core.Bool.{cond}
-use native.Mathlib.Omega.{arith}
-use native.Mathlib.Nat.{le-trans, mul-le-mul, mul-le-mul-right, div-mul-le-self, le-div-iff-mul-le}
 use lib.Dec.{leb, eqb}
-use borrow.Author.Tests.{le-leb, lt-leb}
-use Rattle.enclosure.specs.Root.{rootOf, rootUp, root-is, root-le, root-below, root-greatest, rootUp-reaches, rootUp-least}
+use Rattle.enclosure.specs.Exact.{rootOf, rootUp}
 
 -- "c: 110/100 above 1,000 V; up to and including 1,000 V, 105/100 at tolerance 6 and 110/100 at 10." In hundredths; a
 -- tolerance other than 6 counts as 10
 unfoldable pub factorC : ℕ → ℕ → ℕ
 factorC tolerance volts = cond (leb volts 1000) (cond (eqb tolerance 6) 105 110) 110
 
-pub factorC-above : (tolerance volts : ℕ) → 1000 < volts → factorC tolerance volts ≡ 110
-unfolding factorC
-factorC-above tolerance volts h = rw (lt-leb volts 1000 h)
-
-pub factorC-six : (volts : ℕ) → volts ≤ 1000 → factorC 6 volts ≡ 105
-unfolding factorC
-factorC-six volts h = rw (le-leb volts 1000 h)
-
-pub factorC-ten : (volts : ℕ) → volts ≤ 1000 → factorC 10 volts ≡ 110
-unfolding factorC
-factorC-ten volts h = rw (le-leb volts 1000 h)
-
 -- "Sine: the least s with s² ≥ 10⁸ − 10⁴·p², p the power factor; sin = s/10,000."
 unfoldable pub sineOf : ℕ → ℕ
 sineOf p = rootUp (100000000 - 10000 * (p * p))
-
-pub sine-reaches : (p : ℕ) → 100000000 ≤ sineOf p * sineOf p + 10000 * (p * p)
-unfolding sineOf
-sine-reaches p = omega (arith, rootUp-reaches (100000000 - 10000 * (p * p)))
-
-pub sine-least : (p s : ℕ) → 100000000 ≤ s * s + 10000 * (p * p) → sineOf p ≤ s
-unfolding sineOf
-sine-least p s h = rootUp-least (100000000 - 10000 * (p * p)) s (omega arith)
-
-pub sine-most : (p : ℕ) → sineOf p ≤ 10000
-sine-most p = sine-least p 10000 (omega arith)
 
 -- "ux: the greatest whole number with ux² ≤ uk² − uR²."
 unfoldable pub uxOf : ℕ → ℕ → ℕ
 uxOf uk uR = rootOf (uk * uk - uR * uR)
 
-pub ux-fits : (uk uR : ℕ) → uR ≤ uk → uxOf uk uR * uxOf uk uR + uR * uR ≤ uk * uk
-unfolding uxOf
-ux-fits uk uR l = omega (arith, root-is (uk * uk - uR * uR) .low, mul-le-mul l l)
-
-pub ux-greatest : (uk uR w : ℕ) → w * w + uR * uR ≤ uk * uk → w ≤ uxOf uk uR
-unfolding uxOf
-ux-greatest uk uR w h = root-greatest (uk * uk - uR * uR) w (omega arith)
-
-pub ux-most : (uk uR : ℕ) → uxOf uk uR ≤ uk
-unfolding uxOf
-ux-most uk uR = omega (arith, root-below (uk * uk - uR * uR) (uk + 1) (omega arith))
-
-pub ux-none : (uk uR : ℕ) → uk ≤ uR → uxOf uk uR ≡ 0
-unfolding uxOf
-ux-none uk uR l = omega (arith, root-below (uk * uk - uR * uR) 1 (omega (arith, mul-le-mul l l)))
-
 -- "f: the greatest whole number with f²·(10,000 + ρ²) ≤ 10¹⁶; X = Z·f/10⁶, R = X·ρ/100."
 unfoldable pub splitOf : ℕ → ℕ
 splitOf ρ = rootOf (10000000000000000 / (10000 + ρ * ρ))
 
-pub split-fits : (ρ : ℕ) → splitOf ρ * splitOf ρ * (10000 + ρ * ρ) ≤ 10000000000000000
-unfolding splitOf
-split-fits ρ =
-    le-trans (mul-le-mul-right (10000 + ρ * ρ) (root-is (10000000000000000 / (10000 + ρ * ρ)) .low)) (div-mul-le-self 10000000000000000 (10000 + ρ * ρ))
+-- m!·d^m: the denominator of (n/d)^m/m!, and of the sum that ends with it
+unfoldable pub denominator : ℕ → ℕ → ℕ
+denominator zero d = 1
+denominator (suc m) d = denominator m d * (suc m * d)
 
-pub split-greatest : (ρ f : ℕ) → f * f * (10000 + ρ * ρ) ≤ 10000000000000000 → f ≤ splitOf ρ
-unfolding splitOf
-split-greatest ρ f h = root-greatest (10000000000000000 / (10000 + ρ * ρ)) f (le-div-iff-mul-le {k = 10000 + ρ * ρ} (omega arith) .1 h)
+-- the sum of (n/d)^k/k! for k = 0 to m, over `denominator m d`
+unfoldable pub numerator : ℕ → ℕ → ℕ → ℕ
+numerator zero n d = 1
+numerator (suc m) n d = numerator m n d * (suc m * d) + n ^ suc m
 
-pub split-most : (ρ : ℕ) → splitOf ρ ≤ 1000000
-split-most ρ = root-le (splitOf ρ) 1000000 (omega (arith, split-fits ρ))
+-- "T(y): the sum of y^k/k! for k = 0 to 24, the term for k = 0 being 1." T(n/d) is tOver n d / tUnder d
+unfoldable pub tOver : ℕ → ℕ → ℕ
+tOver n d = numerator 24 n d
 
--- ---- for the code: the product of two numbers of 32 bits, and the root of a number of 64
-pub product-most : {a b : ℕ} → a < 4294967296 → b < 4294967296 → a * b ≤ 4294967295 * 4294967295
-product-most {a} {b} h k =
-    let l : a ≤ 4294967295 = omega arith in
-    let m : b ≤ 4294967295 = omega arith in
-    mul-le-mul l m
+unfoldable pub tUnder : ℕ → ℕ
+tUnder d = denominator 24 d
 
-pub root-fits : {x r : ℕ} → r ≡ rootOf x → x < 18446744073709551616 → r < 4294967296
-root-fits {x} {r} e h = rw e (root-below x 4294967296 h)
+-- the least whole number not below a/b
+unfoldable pub ceiling : ℕ → ℕ → ℕ
+ceiling a zero = 0
+ceiling a (suc c) = (a + c) / suc c
 
-pub rootUp-fits : {x r : ℕ} → r ≡ rootUp x → x ≤ 4294967295 * 4294967295 → r < 4294967296
-rootUp-fits {x} {r} e h = omega (arith, rootUp-least x 4294967295 h)
+-- "Peak table, i = 0..230: K(i) = 1,020 + the least whole number not below 980/T(3i/100)."
+unfoldable pub peakFactor : ℕ → ℕ
+peakFactor i = 1020 + ceiling (980 * tUnder 100) (tOver (3 * i) 100)

@@ -1,7 +1,7 @@
 -- Document 01, "Element impedances in ohms": each as an exact point, drawn from the record's fields and nominal volts alone
 -- and defined on all numbers. Assumes nothing.
 use Prim.Native.Nat.{ℕ, _+_, _*_}
-use Rattle.enclosure.specs.Point.{Point, times}
+use Rattle.enclosure.specs.Exact.{Point, times}
 use Rattle.elements.specs.Factors.{factorC, sineOf, uxOf, splitOf}
 
 -- "Line: (r + jx)·metres/(circuits·10⁶)."

@@ -1,18 +1,6 @@
+-- What contracts cite. What is proved of it is below `laws`.
 pub mod Factors
-pub mod Exponential
-pub mod Below
-pub mod PeakTable
-pub mod FineTable
-pub mod FineTableLaw
+pub mod Doubles
 pub mod Peak
-pub mod NearPeak
-pub mod PeakLaw
 pub mod Impedance
-pub mod Sizes
-pub mod Rounded
-pub mod Nearness
-pub mod Place
-pub mod PlaceLaw
-pub mod Currents
-pub mod Figures
-pub mod Worked
+pub mod laws

@@ -1,9 +1,8 @@
 // Document 01's factors, each equal to its definition for every argument.
 ghost use mathlib.Core.Path.{_≡_};
 ghost use Prim.Native.Nat.{min};
-ghost use Rattle.elements.specs.Factors.{factorC, sineOf, uxOf, splitOf};
-ghost use Rattle.elements.specs.PeakTable.{peakFactor};
-ghost use Rattle.elements.specs.FineTable.{fineFactor};
+ghost use Rattle.elements.specs.Factors.{factorC, sineOf, uxOf, splitOf, peakFactor};
+ghost use Rattle.elements.specs.Doubles.{fineFactor};
 
 // c in hundredths, by the tolerance in percent and the nominal volts.
 pub fn voltage_factor(tolerance: u32, volts: u32) -> u32

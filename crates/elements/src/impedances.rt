@@ -1,5 +1,5 @@
-// The element impedances in f64, in ohms. Each equals its definition in specs/Rounded.antt for every argument; how near that is
-// to the exact impedance is proved in specs/Nearness.antt.
+// The element impedances in f64, in ohms. Each equals its definition in specs/Doubles.antt for every argument; how near that is
+// to the exact impedance is proved in specs/laws/ImpedanceErrors.antt.
 use crate::factors::reactance;
 use crate::factors::sine;
 use crate::factors::split_factor;
@@ -9,7 +9,7 @@ use enclosure::nothing;
 use enclosure::of;
 use enclosure::scale;
 ghost use mathlib.Core.Path.{_≡_};
-ghost use Rattle.elements.specs.Rounded.{lineBy, transformerBy, splitBy, feederBy, motorBy, generatorBy, converterBy};
+ghost use Rattle.elements.specs.Doubles.{lineBy, transformerBy, splitBy, feederBy, motorBy, generatorBy, converterBy};
 
 // r and x in micro-ohms per metre.
 pub fn line(r: u32, x: u32, metres: u32, circuits: u32) -> Complex

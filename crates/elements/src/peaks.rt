@@ -4,8 +4,7 @@ use enclosure::Complex;
 use enclosure::scale;
 use enclosure::upper;
 ghost use mathlib.Core.Path.{_≡_};
-ghost use Rattle.elements.specs.Place.{fitsAt, placeOf};
-ghost use Rattle.elements.specs.Currents.{currentBy, machinePeakBy, converterPeakBy};
+ghost use Rattle.elements.specs.Doubles.{fitsAt, placeOf, currentBy, machinePeakBy, converterPeakBy};
 
 // Whether p/1,600 is at most G/B of an admittance, by a margin; p stays within the table.
 fn fits(y: Complex, p: u32) -> bool

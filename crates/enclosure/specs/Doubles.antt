@@ -1,11 +1,15 @@
--- The calculation in f64, one definition for each function of src/. How near each is to the exact operation is proved in Fair and Amperes.
-use Prim.Native.Nat.{ℕ, zero, suc, _+_, _*_, _^_}
-use mathlib.Core.Bool.{Bool, cond}
+-- The calculation in f64, one definition for each function of src/. How near each is to the exact operation is proved in laws/F64Errors
+-- and laws/WholeBounds.
+use Prim.Native.Nat.{ℕ, _^_, min, zero, suc, _+_, _*_}
 use lib.Ieee.{Float, binary64, ofBits, add, mul, div, eq, le}
+use mathlib.Core.Bool.{Bool, cond}
+use Rattle.enclosure.specs.Exact.{ofNat, Ops}
 use Rattle.enclosure.specs.declared.Complex.{Complex}
 use Rattle.enclosure.specs.declared.Bounds.{Bounds}
-use Rattle.enclosure.specs.Units.{ofNat}
-use Rattle.enclosure.specs.Point.{Ops}
+
+-- a whole number as f64, 2 ^ 53 for any more: past that f64 has not every whole number
+abbrev pub ofWhole : ℕ → Float
+ofWhole n = ofNat (min n (2 ^ 53))
 
 abbrev pub nought : Float
 nought = ofBits binary64 0
@@ -15,8 +19,8 @@ abbrev pub none : Complex
 none = record { re = nought; im = nought }
 
 -- two whole numbers as a point
-unfoldable pub whole : ℕ → ℕ → Complex
-whole a b = record { re = ofNat a; im = ofNat b }
+unfoldable pub wholePoint : ℕ → ℕ → Complex
+wholePoint a b = record { re = ofNat a; im = ofNat b }
 
 unfoldable pub added : Complex → Complex → Complex
 added x y = record { re = add binary64 (x .re) (y .re); im = add binary64 (x .im) (y .im) }

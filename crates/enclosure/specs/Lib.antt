@@ -1,18 +1,4 @@
-pub mod Root
-pub mod Distance
-pub mod Close
-pub mod Point
-pub mod Near
-pub mod Exactly
-pub mod Rounding
-pub mod Units
+-- What contracts cite. What is proved of it is below `laws`.
+pub mod Exact
 pub mod Doubles
-pub mod Climb
-pub mod Steps
-pub mod Fair
-pub mod Range
-pub mod Start
-pub mod Chain
-pub mod Amperes
-pub mod Guess
-pub mod Whole
+pub mod laws

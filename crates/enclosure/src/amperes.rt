@@ -1,9 +1,9 @@
 // Amperes as f64. An rms ampere and a peak ampere are two quantities, so that neither is taken for the other.
-// The contracts give the f64 operation; on whole numbers up to 2^53 it is that of the whole numbers (specs/Whole.antt).
+// The contracts give the f64 operation; on whole numbers up to 2^53 it is that of the whole numbers (specs/laws/WholeF64.antt).
 ghost use mathlib.Core.Path.{_≡_};
 ghost use Prim.Native.Nat.{_^_, min};
 ghost use lib.Ieee.{binary64, add, sub, lt, le};
-ghost use Rattle.enclosure.specs.Whole.{ofWhole};
+ghost use Rattle.enclosure.specs.Doubles.{ofWhole};
 
 // Root-mean-square amperes.
 pub struct Rms(pub f64);

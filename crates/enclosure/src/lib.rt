@@ -1,13 +1,13 @@
 // Enclosing arithmetic: the lower crate of document 01, on which every bound rests.
 // Points of the closed first quadrant in f64: impedances R + jX as they are, admittances G - jB as G and B.
 // Each function ensures that it computes its definition in specs/Doubles.antt; how near that is to the exact operation is proved in
-// specs/Fair.antt and specs/Amperes.antt.
+// specs/laws/F64Errors.antt and specs/laws/WholeBounds.antt.
 pub mod amperes;
 pub mod roots;
 
 ghost use mathlib.Core.Path.{_≡_};
 ghost use Prim.Native.Nat.{_<_};
-ghost use Rattle.enclosure.specs.Doubles.{none, whole, added, empty, inverted, scaled, sizeBelow, lowerOf, upperOf, boundsOf};
+ghost use Rattle.enclosure.specs.Doubles.{none, wholePoint, added, empty, inverted, scaled, sizeBelow, lowerOf, upperOf, boundsOf};
 
 pub struct Complex {
     pub re: f64,
@@ -29,7 +29,7 @@ pub fn nothing() -> Complex
 
 // Two whole numbers as a point.
 pub fn of(re: u32, im: u32) -> Complex
-    ensures { λ r. ⌜ r ≡ whole re im ⌝ }
+    ensures { λ r. ⌜ r ≡ wholePoint re im ⌝ }
 {
     Complex {
         re: re as f64,
@@ -94,7 +94,7 @@ fn wide(x: u16) -> u64
     x as u64
 }
 
-// A whole number not above √(p/q)·|z|, for sizes in range (specs/Amperes.antt).
+// A whole number not above √(p/q)·|z|, for sizes in range (specs/laws/WholeBounds.antt).
 pub fn lower(z: Complex, p: u16, q: u16) -> u64
     ensures { λ r. ⌜ r ≡ lowerOf p q z ⌝ }
 {

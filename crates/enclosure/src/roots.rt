@@ -1,7 +1,7 @@
 // Whole square roots.
 ghost use mathlib.Core.Path.{_≡_};
 ghost use mathlib.Core.Bool.{true};
-ghost use Rattle.enclosure.specs.Root.{rootOf, rootUp};
+ghost use Rattle.enclosure.specs.Exact.{rootOf, rootUp};
 ghost use Rattle.enclosure.specs.Doubles.{rootBelow};
 
 // A number near the root of m: from m with its exponent halved, by three steps of Newton's. Nothing rests on how near it is: what is

@@ -11,11 +11,13 @@ use lib.Seq.{take-all, getD-take, getD-set-same, getD-set-other}
 use borrow.Author.Tests.{eqb-true, eqb-false, eq-eqb, ltb-true, ltb-false, lt-ltb, le-ltb}
 use Rattle.enclosure.specs.declared.Complex.{Complex}
 use Rattle.enclosure.specs.Doubles.{nought, none, added}
-use Rattle.tree.specs.Sums.{sumOf, sum-more}
-use Rattle.network.specs.declared.Found.{Found}
-use Rattle.network.specs.Network.{maxBuses}
-use Rattle.network.specs.QueryAll.{refusedBy}
-use Rattle.sweep.specs.Columns.{column, pointAt, points, pointsOf}
+use Rattle.tree.specs.Grid.{sumOf}
+use Rattle.tree.specs.laws.Sums.{sum-more}
+use Rattle.network.specs.declared.query.Found.{Found}
+use Rattle.tree.specs.Limits.{maxBuses}
+use Rattle.network.specs.Query.{refusedBy}
+use Rattle.sweep.specs.Columns.{column}
+use Rattle.sweep.specs.Points.{pointAt, points, pointsOf}
 use Rattle.sweep.specs.laws.Columns.{column-only, points-only, put-same, put-other}
 
 -- the array v holds f of each record of l, and f of the blank record past the last one

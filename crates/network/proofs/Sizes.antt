@@ -4,8 +4,8 @@ use Prim.Native.Nat.{ℕ, _+_, _^_, _≤_}
 use native.Mathlib.Omega.{arith}
 use Rattle.enclosure.specs.declared.Complex.{Complex}
 use Rattle.enclosure.specs.Doubles.{empty, sizeBelow, lowerOf, upperOf}
-use Rattle.enclosure.specs.Climb.{size-small}
-use Rattle.elements.specs.Currents.{machinePeakBy, converterPeakBy}
+use Rattle.enclosure.specs.laws.Climb.{size-small}
+use Rattle.elements.specs.Doubles.{machinePeakBy, converterPeakBy}
 
 cond-most : (t : Bool) (n m : ℕ) → n ≤ m → cond t 0 n ≤ m
 cond-most true n m h = omega arith

@@ -4,8 +4,9 @@ use Prim.Native.Nat.{ℕ, _^_, _≤_}
 use lib.Ieee.{Float}
 use Rattle.enclosure.specs.declared.amperes.Rms.{Rms}
 use Rattle.enclosure.specs.declared.amperes.Peak.{Peak}
-use Rattle.enclosure.specs.Units.{ofNat}
-use Rattle.enclosure.specs.Whole.{ofWhole, whole-few}
+use Rattle.enclosure.specs.Exact.{ofNat}
+use Rattle.enclosure.specs.Doubles.{ofWhole}
+use Rattle.enclosure.specs.laws.WholeF64.{whole-few}
 
 pub rms-whole : {r : Rms} {n m : ℕ} → r .0 ≡ ofWhole n → n ≡ m → m ≤ 2 ^ 53 → r ≡ record { 0 = ofNat m }
 rms-whole {r} {n} {m} e f h = ap (λ (x : Float). record { 0 = x }) (e ∙ ap ofWhole f ∙ whole-few m h)

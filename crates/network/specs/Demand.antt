@@ -1,14 +1,16 @@
--- Document 01, "What a bus gets": demand 3 as one definition over a network, a bus and six amperes.
-use Prim.Native.Nat.{ℕ, _+_, _*_, _^_, _≤_, _<_}
+-- Document 01, "What a bus gets": demand 3 as one definition over a network, a bus and six amperes; and the verdict.
+use Prim.Native.Nat.{ℕ, _+_, _*_, _^_, _≤_, _<_, _-_}
 use mathlib.Core.Path.{_≡_}
-use Rattle.enclosure.specs.Units.{ofNat}
-use Rattle.enclosure.specs.Close.{norm}
-use Rattle.enclosure.specs.Point.{Point}
+use mathlib.Core.Bool.{cond}
+use lib.Dec.{ltb, leb}
+use Rattle.enclosure.specs.Exact.{ofNat, norm, Point}
 use Rattle.elements.specs.Factors.{factorC}
 use Rattle.elements.specs.Peak.{PeakBound, peakOver, peakUnder}
-use Rattle.network.specs.declared.Amperes.{Amperes}
+use Rattle.network.specs.declared.query.Amperes.{Amperes}
 use Rattle.network.specs.Network.{Network, busAt}
 use Rattle.network.specs.Grid.{impedanceAt, convertersAt}
+use Rattle.network.specs.declared.query.Verdict.{Verdict}
+use Rattle.network.specs.declared.query.Verdict.the-variants.{Within, Over, Close}
 
 -- six whole numbers: lower and upper of the machines' part, the same of the converters' part, machines' peak, converters' peak
 pub record Figures : Type 0 where
@@ -21,7 +23,7 @@ pub record Figures : Type 0 where
 
 -- "Six f64 amperes, each whole and below 2⁵³, none negative"; "L and U are the sums of the lower and of the upper bounds, P of the
 -- peaks, each below 2⁵³ as well"
-pub record Whole (a : Amperes) (f : Figures) : Type 0 where
+pub record WholeAmperes (a : Amperes) (f : Figures) : Type 0 where
   pub lower : a .lower .0 ≡ ofNat (f .lower)
   pub upper : a .upper .0 ≡ ofNat (f .upper)
   pub «converters_lower» : a .«converters_lower» .0 ≡ ofNat (f .«converters_lower»)
@@ -68,9 +70,35 @@ pub record ConvertersHold (C : Point) (lower upper peak : ℕ) : Type 0 where
   pub narrow : Narrow lower upper
   pub crest : PeakBound peak (2 * (C .re * C .re)) (C .den * C .den)
 
--- DEMAND 3, but for the sameness of networks alike in all but their converters (Same)
+-- DEMAND 3, but for the sameness of networks alike in all but their converters (Promise)
 pub record Demand (n : Network) (b : ℕ) (a : Amperes) : Type 0 where
   pub figures : Figures
-  pub whole : Whole a figures
+  pub whole : WholeAmperes a figures
   pub machines : MachinesHold (driving n b) (impedanceAt n b) (figures .lower) (figures .upper) (figures .peak)
   pub converters : ConvertersHold (convertersAt n b) (figures .«converters_lower») (figures .«converters_upper») (figures .«converters_peak»)
+
+-- six whole numbers as amperes
+abbrev pub amperesOf : Figures → Amperes
+amperesOf f = record {
+  lower = record { 0 = ofNat (f .lower) };
+  upper = record { 0 = ofNat (f .upper) };
+  «converters_lower» = record { 0 = ofNat (f .«converters_lower») };
+  «converters_upper» = record { 0 = ofNat (f .«converters_upper») };
+  peak = record { 0 = ofNat (f .peak) };
+  «converters_peak» = record { 0 = ofNat (f .«converters_peak») };
+}
+
+-- "Over, by P − rated peak, if P exceeds it; otherwise over, by L − rating, if L exceeds it; within, with margin rating − U, if
+-- U ≤ rating; otherwise close."
+abbrev pub verdictOn : ℕ → ℕ → ℕ → ℕ → ℕ → Verdict
+verdictOn L U P rating peakRating =
+    cond (ltb peakRating P) (Over (ofNat (P - peakRating)))
+    (cond (ltb rating L) (Over (ofNat (L - rating)))
+    (cond (leb U rating) (Within (ofNat (rating - U)))
+    Close))
+
+-- each verdict's letter in the file: "W, O or C (within, over, close)"
+abbrev pub letterOf : Verdict → ℕ
+letterOf (Within x) = 87
+letterOf (Over x) = 79
+letterOf Close = 67

@@ -3,15 +3,13 @@ use Prim.Native.Nat.{ℕ, min}
 use mathlib.Core.Bool.{Bool, cond, _&&_}
 use lib.Dec.{eqb}
 use lib.ListN.{length}
-use Rattle.enclosure.specs.Point.{Point, nothing, sum, inverse}
+use Rattle.enclosure.specs.Exact.{Point, nothing, sum, inverse}
 use Rattle.elements.specs.Impedance as impedance
-use Rattle.tree.specs.Grid.{Grid, seen}
-use Rattle.tree.specs.Converters.{carried}
-use Rattle.tree.specs.Sums.{sumOf}
-use Rattle.network.specs.declared.Bus.{Bus}
-use Rattle.network.specs.declared.Source.{Source}
+use Rattle.tree.specs.Grid.{Grid, seen, carried, sumOf}
+use Rattle.network.specs.declared.study.Bus.{Bus}
+use Rattle.network.specs.declared.study.Source.{Source}
 use Rattle.network.specs.SourceKinds.{isMachine, isConverter, impedanceOf, currentOf}
-use Rattle.network.specs.Network.{Network, busAt, parentOf}
+use Rattle.network.specs.Network.{Network, busAt, parentRecord}
 
 -- "Line"; "Transformer, own side: .., c by the lower of the two nominal voltages". Bus 0 has no branch
 unfoldable pub branchOf : ℕ → Bus → Bus → Point
@@ -44,7 +42,7 @@ gridOf n = record {
   count = length (n .buses);
   branch = λ i. record {
     parent = busAt (n .buses) i .parent;
-    z = branchOf (n .tolerance) (parentOf (n .buses) i) (busAt (n .buses) i);
+    z = branchOf (n .tolerance) (parentRecord (n .buses) i) (busAt (n .buses) i);
     above = aboveOf (busAt (n .buses) i);
     below = belowOf (busAt (n .buses) i);
   };

@@ -1,15 +1,16 @@
--- The grounds on which a call is refused, in the order in which document 01 has them tried, and the network after each call. What depends
--- on the limits is said of any edition of the program, by its limits L (`..In`), and then of this one (`here`).
+-- The grounds on which a call is refused, in the order in which document 01 has them tried; the network after each call, and the network
+-- that a list of calls leaves.
 use mathlib.Core.Bool.{Bool, true, not, cond, _&&_, _||_}
 use mathlib.Core.List.{List, [], _∷_, _++_}
 use Prim.Native.Nat.{ℕ}
 use lib.Dec.{leb, ltb, eqb}
 use lib.ListN.{length}
-use Rattle.network.specs.declared.Bus.{Bus}
-use Rattle.network.specs.declared.Source.{Source}
+use Rattle.network.specs.declared.study.Bus.{Bus}
+use Rattle.network.specs.declared.study.Source.{Source}
 use Rattle.network.specs.Records.{within, toleranceOk, voltsOk, ratingOk, branchOk, ratedOk}
 use Rattle.network.specs.SourceKinds.{isFeeder, sourceKindOk, fieldsOk, isRated, machineVolts}
-use Rattle.network.specs.Network.{Network, Limits, here, maxBranches, maxTransformers, openOf, withBus, withSource, closedAs, busAt, parentOf, depthOf, transformersOf}
+use Rattle.network.specs.Network.{Network, openOf, withBus, withSource, closedAs, busAt, parentRecord, depthOf, transformersOf}
+use Rattle.tree.specs.Limits.{Limits, here, maxBranches, maxTransformers}
 
 -- a ground: the test that a call has to pass, and the number that it is refused with
 pub record Ground : Type 0 where
@@ -68,8 +69,8 @@ busGrounds l i =
     ∷ on (parentOk i (busAt l i)) 3
     ∷ on (kindOk i (busAt l i)) 4
     ∷ on (branchOk (busAt l i)) 5
-    ∷ on (lineVoltsOk (parentOf l i) (busAt l i)) 6
-    ∷ on (transformerVoltsOk (parentOf l i) (busAt l i)) 7
+    ∷ on (lineVoltsOk (parentRecord l i) (busAt l i)) 6
+    ∷ on (transformerVoltsOk (parentRecord l i) (busAt l i)) 7
     ∷ on (depthOk l i) 8
     ∷ on (ratingOk (busAt l i)) 9
     ∷ []
@@ -153,3 +154,31 @@ closeNumber n = first (closeGrounds n)
 
 unfoldable pub afterClose : Network → Network
 afterClose n = cond (eqb (closeNumber n) 0) (closedAs true n) n
+
+-- a call on a study: started with a tolerance, given a bus record or a source record, closed, asked for a bus
+pub data Call : Type 0 where
+  starting : ℕ → Call
+  addingBus : Bus → Call
+  addingSource : Source → Call
+  closing : Call
+  querying : ℕ → Call
+
+-- the network after a call; a query changes nothing
+abbrev pub step : Network → Call → Network
+step n (starting t) = startNetwork t
+step n (addingBus b) = afterBus n b
+step n (addingSource p) = afterSource n p
+step n closing = afterClose n
+step n (querying i) = n
+
+-- the calls of a list, the first one first
+abbrev pub runFrom : Network → List Call → Network
+runFrom n [] = n
+runFrom n (c ∷ cs) = runFrom (step n c) cs
+
+-- before any call there are no records, and "A refused start or file leaves tolerance 6 and no records"
+abbrev pub emptyNetwork : Network
+emptyNetwork = emptyOf 6
+
+unfoldable pub run : List Call → Network
+run cs = runFrom emptyNetwork cs

@@ -5,10 +5,10 @@ use Prim.Native.Nat.{ℕ, _+_}
 use lib.Dec.{eqb}
 use lib.ListN.{take, getD}
 pub use Rattle.tree.specs.Limits.{Limits, here, maxBuses, maxSources, maxBranches, maxTransformers}
-use Rattle.tree.specs.Toward.{toward}
-use Rattle.network.specs.declared.Bus.{Bus}
-use Rattle.network.specs.declared.Source.{Source}
-use Rattle.network.specs.declared.Study.{Study}
+use Rattle.tree.specs.Grid.{toward}
+use Rattle.network.specs.declared.study.Bus.{Bus}
+use Rattle.network.specs.declared.study.Source.{Source}
+use Rattle.network.specs.declared.study.Study.{Study}
 
 -- "the tolerance of its start, the bus records and the source records of its accepted additions, each kind in order", and
 -- "whether its study is closed"
@@ -59,8 +59,8 @@ blankSource = record { kind = 0; bus = 0; f1 = 0; f2 = 0; f3 = 0; f4 = 0; f5 = 0
 abbrev pub busAt : List Bus → ℕ → Bus
 busAt l i = getD l i blank
 
-abbrev pub parentOf : List Bus → ℕ → Bus
-parentOf l i = busAt l (busAt l i .parent)
+abbrev pub parentRecord : List Bus → ℕ → Bus
+parentRecord l i = busAt l (busAt l i .parent)
 
 abbrev pub sourceAt : List Source → ℕ → Source
 sourceAt l j = getD l j blankSource

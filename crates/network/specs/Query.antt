@@ -1,17 +1,19 @@
--- Querying a bus: the grounds of refusal, and what is given.
+-- Querying a bus, and all buses: the grounds of refusal, and what is given.
 use mathlib.Core.Bool.{cond}
 use mathlib.Core.List.{List, [], _∷_}
 use Prim.Native.Nat.{ℕ}
 use lib.Dec.{ltb, eqb}
-use lib.ListN.{length}
-use Rattle.enclosure.specs.Units.{ofNat}
-use Rattle.network.specs.declared.Amperes.{Amperes}
-use Rattle.network.specs.declared.Verdict.{Verdict}
-use Rattle.network.specs.declared.Verdict.the-variants.{Close}
+use lib.ListN.{length, getD}
+use Rattle.enclosure.specs.Exact.{ofNat}
+use Rattle.network.specs.declared.query.Amperes.{Amperes}
+use Rattle.network.specs.declared.query.Verdict.{Verdict}
+use Rattle.network.specs.declared.query.Verdict.the-variants.{Close}
 use Rattle.network.specs.Network.{Network, busAt}
 use Rattle.network.specs.Grounds.{Ground, on, first}
-use Rattle.network.specs.Rounded.{amperesOf, amperesAt}
-use Rattle.network.specs.Verdict.{verdictOf}
+use Rattle.network.specs.Demand.{amperesOf}
+use Rattle.network.specs.Doubles.{amperesAt, verdictOf}
+use Rattle.sweep.specs.Columns.{column}
+use Rattle.network.specs.declared.query.Found.{Found}
 
 -- "22 not closed (querying)."; "15 queried bus absent."
 abbrev pub queryGrounds : Network → ℕ → List Ground
@@ -29,3 +31,18 @@ amperesGiven n b = cond (eqb (queryNumber n b) 0) (amperesAt n b) noAmperes
 
 unfoldable pub verdictGiven : Network → ℕ → Verdict
 verdictGiven n b = cond (eqb (queryNumber n b) 0) (verdictOf (amperesAt n b) (ofNat (busAt (n .buses) b .rating)) (ofNat (busAt (n .buses) b .«peak_rating»))) Close
+
+-- what a query of bus b gives
+unfoldable pub foundGiven : Network → ℕ → Found
+foundGiven n b = record { number = queryNumber n b; amperes = amperesGiven n b; verdict = verdictGiven n b }
+
+-- the same for every bus
+unfoldable pub rowsGiven : Network → List Found
+rowsGiven n = column (foundGiven n)
+
+-- a refused query, and the row at a place
+abbrev pub refusedBy : ℕ → Found
+refusedBy number = record { number = number; amperes = noAmperes; verdict = Close }
+
+abbrev pub rowAt : List Found → ℕ → Found
+rowAt l b = getD l b (refusedBy 15)

@@ -1,36 +1,20 @@
--- The answers to a query of each bus, from one board. Definitions alone.
+-- The answers to a query of each bus as the code makes them, from one board. That they are those of Query is proved in laws/QueryAll.
 use Prim.Native.Nat.{ℕ}
 use mathlib.Core.Bool.{cond}
 use mathlib.Core.List.{List}
 use lib.Dec.{ltb}
-use lib.ListN.{length, getD}
-use Rattle.enclosure.specs.Units.{ofNat}
+use lib.ListN.{length}
+use Rattle.enclosure.specs.Exact.{ofNat}
 use Rattle.enclosure.specs.declared.Complex.{Complex}
 use Rattle.elements.specs.Factors.{factorC}
 use Rattle.sweep.specs.Columns.{column}
-use Rattle.network.specs.declared.Bus.{Bus}
-use Rattle.network.specs.declared.Amperes.{Amperes}
-use Rattle.network.specs.declared.Found.{Found}
-use Rattle.network.specs.declared.Verdict.the-variants.{Close}
-use Rattle.network.specs.Network.{Network, busAt}
-use Rattle.network.specs.Rounded.{figuresBy, amperesOf}
-use Rattle.network.specs.Verdict.{verdictOf}
-use Rattle.network.specs.Query.{queryNumber, noAmperes, amperesGiven, verdictGiven}
-
--- what a query of bus b gives
-unfoldable pub foundGiven : Network → ℕ → Found
-foundGiven n b = record { number = queryNumber n b; amperes = amperesGiven n b; verdict = verdictGiven n b }
-
--- the same for every bus
-unfoldable pub rowsGiven : Network → List Found
-rowsGiven n = column (foundGiven n)
-
--- a refused query, and the row at a place
-abbrev pub refusedBy : ℕ → Found
-refusedBy number = record { number = number; amperes = noAmperes; verdict = Close }
-
-abbrev pub rowAt : List Found → ℕ → Found
-rowAt l b = getD l b (refusedBy 15)
+use Rattle.network.specs.declared.study.Bus.{Bus}
+use Rattle.network.specs.declared.query.Amperes.{Amperes}
+use Rattle.network.specs.declared.query.Found.{Found}
+use Rattle.network.specs.Network.{busAt}
+use Rattle.network.specs.Doubles.{figuresBy, verdictOf}
+use Rattle.network.specs.Demand.{amperesOf}
+use Rattle.network.specs.Query.{refusedBy}
 
 -- ---- as the code makes them: the answer to an accepted query, from a bus record, the admittance y seen there and the converters' part x
 abbrev ratedAgainst : Bus → Amperes → Found

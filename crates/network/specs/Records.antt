@@ -4,7 +4,7 @@ use mathlib.Core.Bool.{Bool, true, not, cond, _&&_, _||_}
 use mathlib.Core.List.{List, [], _∷_}
 use Prim.Native.Nat.{ℕ, _*_}
 use lib.Dec.{leb, ltb, eqb}
-use Rattle.network.specs.declared.Bus.{Bus}
+use Rattle.network.specs.declared.study.Bus.{Bus}
 
 -- low..high, both ends included; where low is 0 the upper end alone is tested
 abbrev pub within : ℕ → ℕ → ℕ → Bool

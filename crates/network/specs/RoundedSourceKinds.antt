@@ -2,8 +2,8 @@
 use Prim.Native.Nat.{ℕ}
 use Rattle.enclosure.specs.declared.Complex.{Complex}
 use Rattle.enclosure.specs.Doubles.{none, inverted}
-use Rattle.elements.specs.Rounded.{feederBy, generatorBy, motorBy, converterBy}
-use Rattle.network.specs.declared.Source.{Source}
+use Rattle.elements.specs.Doubles.{feederBy, generatorBy, motorBy, converterBy}
+use Rattle.network.specs.declared.study.Source.{Source}
 use Rattle.network.specs.SourceKinds.{byKind}
 
 -- the impedance of each kind, by the tolerance of the study and Un of the source's bus

@@ -5,9 +5,9 @@ use mathlib.Core.Bool.{Bool, not, cond, _||_}
 use mathlib.Core.List.{List, [], _∷_}
 use Prim.Native.Nat.{ℕ}
 use lib.Dec.{leb, eqb}
-use Rattle.enclosure.specs.Point.{Point, nothing}
+use Rattle.enclosure.specs.Exact.{Point, nothing}
 use Rattle.elements.specs.Impedance as impedance
-use Rattle.network.specs.declared.Source.{Source}
+use Rattle.network.specs.declared.study.Source.{Source}
 use Rattle.network.specs.Records.{within, all}
 
 -- ---- the kinds by their numbers

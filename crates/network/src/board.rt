@@ -1,15 +1,15 @@
 // A board: what the rows of a study are read off, made once for a call. What a bus gets is one row of it.
 ghost use mathlib.Core.Path.{_≡_};
 ghost use lib.ListN.{take};
-ghost use Rattle.network.specs.Rounded.{boardOf};
-use crate::BUSES;
-use crate::Bus;
-use crate::SOURCES;
-use crate::Source;
+ghost use Rattle.network.specs.Doubles.{boardOf};
 use crate::columns::TreeColumns;
 use crate::columns::branches;
 use crate::columns::standing_of;
 use crate::columns::tree_of;
+use crate::study::BUSES;
+use crate::study::Bus;
+use crate::study::SOURCES;
+use crate::study::Source;
 use enclosure::Complex;
 use sweep::columns::Points;
 use sweep::columns::clamped;

@@ -2,13 +2,14 @@
 ghost use mathlib.Core.Path.{_≡_};
 ghost use Prim.Native.Nat.{_<_};
 ghost use Rattle.network.specs.Records.{all, voltsOk, ratingOk, noBranchTests, lineTests, transformerTests, branchOk};
-ghost use Rattle.network.specs.Network.{maxBuses, busAt, ifTransformer, depthOf, transformersOf};
+ghost use Rattle.tree.specs.Limits.{maxBuses};
+ghost use Rattle.network.specs.Network.{busAt, ifTransformer, depthOf, transformersOf};
 ghost use Rattle.network.specs.Grounds.{parentOk, kindOk, lineVoltsOk, transformerVoltsOk, depthOk, busRecordNumber};
-use crate::BUSES;
-use crate::Bus;
-use crate::blank_bus;
 use crate::checks::rated_ok;
 use crate::checks::unless;
+use crate::study::BUSES;
+use crate::study::Bus;
+use crate::study::blank_bus;
 
 // The branches that may lead from bus 0 to a bus.
 const BRANCHES: usize = 18;

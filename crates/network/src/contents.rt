@@ -2,11 +2,11 @@
 ghost use mathlib.Core.Path.{_≡_};
 ghost use lib.ListN.{length, take};
 ghost use Rattle.network.specs.Network.{network};
-use crate::BUSES;
-use crate::Bus;
-use crate::SOURCES;
-use crate::Source;
-use crate::Study;
+use crate::study::BUSES;
+use crate::study::Bus;
+use crate::study::SOURCES;
+use crate::study::Source;
+use crate::study::Study;
 
 // Its tolerance.
 pub fn tolerance_of(s: Study) -> u32

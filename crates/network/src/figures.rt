@@ -1,7 +1,8 @@
 // What a bus gets, from the admittance and the current calculated there.
 ghost use mathlib.Core.Path.{_≡_};
-ghost use Rattle.network.specs.Rounded.{figuresBy, amperesOf};
-use crate::Amperes;
+ghost use Rattle.network.specs.Doubles.{figuresBy};
+ghost use Rattle.network.specs.Demand.{amperesOf};
+use crate::query::Amperes;
 use elements::peaks::converter_peak;
 use elements::peaks::current;
 use elements::peaks::machine_peak;

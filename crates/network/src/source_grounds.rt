@@ -2,11 +2,6 @@
 ghost use mathlib.Core.Path.{_≡_};
 ghost use Rattle.network.specs.Network.{network};
 ghost use Rattle.network.specs.Grounds.{machineVoltsOk, feederPlaceOk, sourceRecordNumber};
-use crate::Bus;
-use crate::Source;
-use crate::Study;
-use crate::bus_at;
-use crate::bus_total;
 use crate::checks::rated_ok;
 use crate::checks::unless;
 use crate::source_kinds::fields_ok;
@@ -14,6 +9,11 @@ use crate::source_kinds::is_feeder;
 use crate::source_kinds::is_rated;
 use crate::source_kinds::kind_ok;
 use crate::source_kinds::machine_volts;
+use crate::study::Bus;
+use crate::study::Source;
+use crate::study::Study;
+use crate::study::bus_at;
+use crate::study::bus_total;
 
 // Ground 13: the rated volts of a machine that has them, at bus b.
 fn machine_volts_ok(b: Bus, p: Source) -> bool

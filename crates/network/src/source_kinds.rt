@@ -4,7 +4,7 @@ ghost use mathlib.Core.Path.{_≡_};
 ghost use Rattle.network.specs.Records.{all};
 ghost use Rattle.network.specs.SourceKinds.{isFeeder, isConverter, sourceKindOk, feederTests, generatorTests, motorTests, converterTests, fieldsOk, isRated, machineVolts};
 ghost use Rattle.network.specs.RoundedSourceKinds.{admittanceBy, suppliedBy};
-use crate::Source;
+use crate::study::Source;
 use elements::impedances::converter;
 use elements::impedances::feeder;
 use elements::impedances::generator;

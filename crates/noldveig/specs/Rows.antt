@@ -1,20 +1,15 @@
 -- The rows that the program prints, by document 01, "The file".
-use Prim.Native.Nat.{ℕ, zero, suc, _+_, _≤_}
-use mathlib.Core.Path.{_≡_, sym, _∙_}
-use native.Mathlib.Numerals.{add-one}
-use borrow.Author.Tests.{ne-eqb}
-use native.Mathlib.Omega.{arith}
+use Prim.Native.Nat.{ℕ, zero, suc}
 use mathlib.Core.Bool.{cond}
 use mathlib.Core.List.{List, [], _∷_, _++_}
 use lib.Dec.{eqb}
-use lib.ListN.{length, length-append}
-use Rattle.network.specs.declared.Amperes.{Amperes}
-use Rattle.network.specs.declared.Verdict.{Verdict}
-use Rattle.printing.specs.Printed.{decimal, nextText, amperesText, letterText, decimal-length, next-length, amperes-length, letter-length}
-use Rattle.printing.specs.Line.{room}
+use lib.ListN.{length}
+use Rattle.network.specs.declared.query.Amperes.{Amperes}
+use Rattle.network.specs.declared.query.Verdict.{Verdict}
+use Rattle.printing.specs.Printed.{decimal, nextText, amperesText, letterText}
 use Rattle.network.specs.Network.{Network}
-use Rattle.network.specs.QueryAll.{rowsGiven, rowAt}
-use Rattle.network.specs.declared.Found.{Found}
+use Rattle.network.specs.Query.{rowsGiven, rowAt}
+use Rattle.network.specs.declared.query.Found.{Found}
 use Rattle.reader.specs.File.{cr, lf, Outcome}
 
 abbrev pub crlf : List ℕ
@@ -43,26 +38,3 @@ boardText n = rowsText (rowsGiven n) (length (n .buses))
 -- what is printed of a text that is read: its board, or its refusal
 unfoldable pub printed : Outcome → List ℕ
 printed o = cond (eqb (o .number) 0) (boardText (o .network)) (refusalRow (o .number) (o .row))
-
--- ---- each fits a line
-pub bus-fits : (bus : ℕ) (a : Amperes) (v : Verdict) → length (busRow bus a v) ≤ room
-unfolding busRow
-bus-fits bus a v = simp length-append (omega (arith, decimal-length bus, amperes-length a, letter-length v))
-
-pub refusal-fits : (number row : ℕ) → length (refusalRow number row) ≤ room
-unfolding refusalRow
-refusal-fits number row = simp length-append (omega (arith, next-length number, next-length row))
-
--- ---- one row more, and the two cases of what is printed
-pub rows-more : (rows : List Found) (k : ℕ) → rowsText rows k ++ busRow k (rowAt rows k .amperes) (rowAt rows k .verdict) ≡ rowsText rows (k + 1)
-unfolding rowsText
-rows-more rows k = rw (add-one k)
-
-module _ (o : Outcome) (number : ℕ) (e : number ≡ o .number) where
-  pub printed-board : number ≡ 0 → boardText (o .network) ≡ printed o
-  unfolding printed
-  printed-board z = let y : o .number ≡ 0 = sym e ∙ z in rw y
-
-  pub printed-refusal : (number ≡ 0 → ⊥) → (row : ℕ) → row ≡ o .row → refusalRow number row ≡ printed o
-  unfolding printed
-  printed-refusal h row r = rw (← e, ← r, ne-eqb number 0 h)

@@ -6,7 +6,7 @@ use native.Mathlib.Nat.{div-lt-iff-lt-mul, le-div-iff-mul-le, mod-lt, mod-eq-of-
 use native.Mathlib.Omega.{arith}
 use borrow.Author.Tests.{lt-ltb, le-ltb, leb-true, leb-false}
 use lib.Dec.{leb}
-use Rattle.network.specs.Booleans.{by-test}
+use Rattle.network.specs.laws.Tests.{by-test}
 use Rattle.io.specs.Digits.{digits, glyph, Fewest}
 use Rattle.printing.specs.Printed.{digitsOf, decimal}
 

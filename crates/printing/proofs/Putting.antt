@@ -5,7 +5,8 @@ use Prim.Native.Nat.{ℕ, suc, _+_, _≤_, _<_}
 use native.Mathlib.Numerals.{add-one}
 use lib.ListN.{length, drop, getD, set}
 use lib.Seq.{drop-cons}
-use Rattle.printing.specs.Line.{Line, room, afterText, byte-put, byte-left-out}
+use Rattle.printing.specs.Line.{Line, room, afterText}
+use Rattle.printing.specs.laws.Line.{byte-put, byte-left-out}
 
 module _ (line : List ℕ) (at : ℕ) (bytes : List ℕ) (i : ℕ) (h : i < length bytes) where
   pub next-put : at < room → afterText (set line at (getD bytes i 0), at + 1) (drop (i + 1) bytes) ≡ afterText (line, at) (drop i bytes)

@@ -1,3 +1,4 @@
+-- What contracts cite. What is proved of it is below `laws`.
 pub mod Printed
 pub mod Line
-pub mod Whole
+pub mod laws

@@ -1,11 +1,11 @@
 // Answers as text. A line is put together in an array of the caller's, so that a program can write it at once.
 ghost use mathlib.Core.Path.{_≡_};
 ghost use lib.ListN.{take};
-ghost use Rattle.network.specs.Verdict.{letterOf};
+ghost use Rattle.network.specs.Demand.{letterOf};
 ghost use Rattle.printing.specs.Printed.{wholeOf, amountOf, decimal, nextText, amperesText, letterText};
 ghost use Rattle.printing.specs.Line.{afterText};
-use network::Amperes;
-use network::Verdict;
+use network::query::Amperes;
+use network::query::Verdict;
 
 // The most bytes of a line: four numbers of ten digits and seven of twenty stay below it.
 pub const LINE: usize = 256;

@@ -9,9 +9,9 @@ use borrow.Author.Tests.{lt-ltb, le-ltb, le-leb, lt-leb}
 use lib.Dec.{eqb}
 use lib.ListN.{length, drop, getD, drop-of-length-le}
 use lib.Seq.{drop-cons}
-use Rattle.network.specs.Booleans.{by-test}
+use Rattle.network.specs.laws.Tests.{by-test}
 use Rattle.reader.specs.declared.Number.the-variants.{Value, Broken}
-use Rattle.reader.specs.File.{cr, lf, comma, digit0, digit9, digits, decimal, valueOf}
+use Rattle.reader.specs.File.{cr, lf, comma, digit0, digit9, digits, digitsValue, valueOf}
 use Rattle.reader.specs.Stretches.{atCrlf, atComma}
 
 module _ (l : List ℕ) (i : ℕ) (h : i < length l) where
@@ -38,11 +38,11 @@ module _ (l : List ℕ) (i : ℕ) (h : i < length l) where
   pub digits-more : digit0 ≤ getD l i 0 → getD l i 0 ≤ digit9 → digits (drop i l) ≡ digits (drop (i + 1) l)
   digits-more p q = rw (add-one i, drop-cons l i 0 h, le-leb digit0 (getD l i 0) p, le-leb (getD l i 0) digit9 q)
 
-  pub decimal-more : (n : ℕ) → decimal n (drop i l) ≡ decimal (10 * n + (getD l i 0 - digit0)) (drop (i + 1) l)
+  pub decimal-more : (n : ℕ) → digitsValue n (drop i l) ≡ digitsValue (10 * n + (getD l i 0 - digit0)) (drop (i + 1) l)
   decimal-more n = rw (add-one i, drop-cons l i 0 h)
 
 -- further digits do not lower a number
-pub decimal-least : (n : ℕ) (l : List ℕ) → n ≤ decimal n l
+pub decimal-least : (n : ℕ) (l : List ℕ) → n ≤ digitsValue n l
 decimal-least n [] = omega arith
 decimal-least n (b ∷ bs) = omega (arith, decimal-least (10 * n + (b - digit0)) bs)
 
@@ -51,10 +51,10 @@ pub value-other : (f : List ℕ) → digits f ≡ false → valueOf f ≡ Broken
 unfolding valueOf
 value-other f e = rw e
 
-pub value-large : (f : List ℕ) → 2 ^ 32 ≤ decimal 0 f → valueOf f ≡ Broken
+pub value-large : (f : List ℕ) → 2 ^ 32 ≤ digitsValue 0 f → valueOf f ≡ Broken
 unfolding valueOf
-value-large f h = by-test (digits f) (λ t. rw (t, le-ltb (decimal 0 f) (2 ^ 32) h)) (λ t. rw t)
+value-large f h = by-test (digits f) (λ t. rw (t, le-ltb (digitsValue 0 f) (2 ^ 32) h)) (λ t. rw t)
 
-pub value-small : (f : List ℕ) (n : ℕ) → digits f ≡ true → decimal 0 f ≡ n → n < 2 ^ 32 → valueOf f ≡ Value n
+pub value-small : (f : List ℕ) (n : ℕ) → digits f ≡ true → digitsValue 0 f ≡ n → n < 2 ^ 32 → valueOf f ≡ Value n
 unfolding valueOf
 value-small f n t e h = rw (t, e, lt-ltb n (2 ^ 32) h)

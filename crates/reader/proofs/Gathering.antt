@@ -9,7 +9,8 @@ use lib.Dec.{leb·zero}
 use lib.ListN.{length, drop, set, replicate, length-set, length-replicate, length-drop}
 use Rattle.reader.specs.declared.Number.the-variants.{Value, Broken}
 use Rattle.reader.specs.File.{mostFields, fields, numberOf}
-use Rattle.reader.specs.Stretches.{atComma, stretch, before-le, fieldsFrom, from-step, length-stretch}
+use Rattle.reader.specs.Stretches.{atComma, stretch}
+use Rattle.reader.specs.laws.Stretches.{before-le, fieldsFrom, from-step, length-stretch}
 use Rattle.reader.specs.Gathered.{counted, gather, gathered}
 
 pub record Progress (row values : List ℕ) (count at : ℕ) : Type 0 where

@@ -8,11 +8,12 @@ use borrow.Author.Tests.{eq-eqb, ne-eqb, leb-false, ltb-true, ltb-false}
 use lib.Dec.{leb, ltb, eqb}
 use lib.ListN.{length, take, drop, getD, length-take, List·getD-eq-default}
 use lib.Seq.{length-take-le, getD-take}
-use Rattle.network.specs.Booleans.{by-test, both-true}
+use Rattle.network.specs.laws.Tests.{by-test, both-true}
 use Rattle.reader.specs.declared.Numbers.{Numbers}
 use Rattle.reader.specs.declared.Row.the-variants.{Start, WithBus, WithSource, Malformed}
 use Rattle.reader.specs.File.{busFields, sourceFields, mostFields, busCountOk, sourceCountOk, comma, letterS, letterB, letterP, fields, allNumbers, amounts, busOf, sourceOf, recordOf, fieldsRow, rowOf}
-use Rattle.reader.specs.Gathered.{Filled, Gathered}
+use Rattle.reader.specs.Gathered.{Filled}
+use Rattle.reader.specs.laws.Gathered.{Gathered}
 
 -- ---- a letter and the first numbers of an array
 -- zeros behind them are the same as no numbers

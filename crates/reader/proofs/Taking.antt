@@ -11,7 +11,8 @@ use Rattle.network.specs.Network.{Network}
 use Rattle.network.specs.Grounds.{closeNumber, afterClose}
 use Rattle.reader.specs.declared.Row.{Row}
 use Rattle.reader.specs.File.{rows, rowOf, rowNumber, afterRow, refusedAt, acceptedAs, closeAfter, readFromIn, readFrom}
-use Rattle.reader.specs.Stretches.{atCrlf, before, stretch, rows-step}
+use Rattle.reader.specs.Stretches.{atCrlf, before, stretch}
+use Rattle.reader.specs.laws.Stretches.{rows-step}
 
 rows-first : (l : List ℕ) → 0 < length l → rows l ≡ stretch atCrlf l ∷ rows (drop (before atCrlf l + 2) l)
 rows-first [] h = absurd (omega arith)

@@ -5,12 +5,11 @@ use mathlib.Core.List.{List, [], _∷_}
 use Prim.Native.Nat.{ℕ, _+_, _*_, _-_, _^_, max}
 use lib.Dec.{ltb, eqb}
 use lib.ListN.{length, getD}
-use Rattle.network.specs.declared.Bus.{Bus}
-use Rattle.network.specs.declared.Source.{Source}
+use Rattle.network.specs.declared.study.Bus.{Bus}
+use Rattle.network.specs.declared.study.Source.{Source}
 use Rattle.network.specs.Records.{within}
 use Rattle.network.specs.Network.{Network, network, Limits, here}
-use Rattle.network.specs.Grounds.{startNumber, startNetwork, busNumberIn, afterBusIn, sourceNumberIn, afterSourceIn, closeNumber, afterClose}
-use Rattle.network.specs.Calls.{emptyNetwork}
+use Rattle.network.specs.Grounds.{startNumber, startNetwork, busNumberIn, afterBusIn, sourceNumberIn, afterSourceIn, closeNumber, afterClose, emptyNetwork}
 use Rattle.reader.specs.declared.Number.{Number}
 use Rattle.reader.specs.declared.Number.the-variants.{Value, Broken}
 use Rattle.reader.specs.declared.Reading.{Reading}
@@ -91,12 +90,12 @@ digits [] = true
 digits (b ∷ bs) = within b digit0 digit9 && digits bs
 
 -- the number that digits make after those of n
-abbrev pub decimal : ℕ → List ℕ → ℕ
-decimal n [] = n
-decimal n (b ∷ bs) = decimal (10 * n + (b - digit0)) bs
+abbrev pub digitsValue : ℕ → List ℕ → ℕ
+digitsValue n [] = n
+digitsValue n (b ∷ bs) = digitsValue (10 * n + (b - digit0)) bs
 
 unfoldable pub valueOf : List ℕ → Number
-valueOf f = cond (digits f && ltb (decimal 0 f) (2 ^ 32)) (Value (decimal 0 f)) Broken
+valueOf f = cond (digits f && ltb (digitsValue 0 f) (2 ^ 32)) (Value (digitsValue 0 f)) Broken
 
 -- a field that is a number, and any other
 unfoldable pub numberOf : List ℕ → Number

@@ -1,6 +1,5 @@
+-- What contracts cite. What is proved of it is below `laws`.
 pub mod File
 pub mod Stretches
 pub mod Gathered
-pub mod Accepted
-pub mod Editions
-pub mod EditionsLaw
+pub mod laws

@@ -11,8 +11,8 @@ use crate::Numbers;
 use crate::Row;
 use crate::SOURCE_FIELDS;
 use crate::fields::numbers_of;
-use network::Bus;
-use network::Source;
+use network::study::Bus;
+use network::study::Source;
 
 // Whether CRLF stands at a place.
 fn ends_row(text: &[u8], i: usize) -> bool

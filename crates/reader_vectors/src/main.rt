@@ -18,8 +18,8 @@ fn tell(text: &[u8]) {
     let study = r.study;
     field(wide(r.number));
     field(wide(r.row));
-    field(wide(network::close(study).number));
-    io::print_decimal(STDOUT_FILENO, network::bus_total(study) as u64);
+    field(wide(network::calls::close(study).number));
+    io::print_decimal(STDOUT_FILENO, network::study::bus_total(study) as u64);
     io::write_all(STDOUT_FILENO, b"\n");
 }
 

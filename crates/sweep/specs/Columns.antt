@@ -1,16 +1,7 @@
--- Columns: a number or a point for each bus, and the tree that they stand for. Definitions alone.
+-- A column: what stands at each bus, with a place for every bus that there is room for.
 use Prim.Native.Nat.{ℕ, zero, suc}
-use mathlib.Core.Bool.{cond}
 use mathlib.Core.List.{List, [], _∷_}
-use lib.Dec.{ltb}
-use lib.ListN.{getD, set, replicate}
-use lib.Ieee.{Float, nan}
-use Rattle.enclosure.specs.declared.Complex.{Complex}
-use Rattle.enclosure.specs.Point.{nothing}
-use Rattle.enclosure.specs.Doubles.{nought, none}
-use Rattle.tree.specs.Grid.{Grid}
-pub use Rattle.tree.specs.Limits.{maxBuses}
-use Rattle.sweep.specs.declared.columns.Points.{Points}
+use Rattle.tree.specs.Limits.{maxBuses}
 
 -- what f gives at n places, from i on
 abbrev pub listed : {A : Type 0} → (ℕ → A) → ℕ → ℕ → List A
@@ -20,37 +11,3 @@ listed f i (suc n) = f i ∷ listed f (suc i) n
 -- what f gives at each place of a column
 unfoldable pub column : {A : Type 0} → (ℕ → A) → List A
 column f = listed f 0 maxBuses
-
--- an array of numbers at any place, 0 past its end
-abbrev pub numberAt : List ℕ → ℕ → ℕ
-numberAt l i = cond (ltb i maxBuses) (getD l i 0) 0
-
--- two arrays as a point at any place, nothing past their end
-abbrev pub pointAt : List Float → List Float → ℕ → Complex
-pointAt re im i = cond (ltb i maxBuses) (record { re = getD re i nan; im = getD im i nan }) none
-
-abbrev pub points : List Float → List Float → Points
-points re im = record { re = re; im = im }
-
-abbrev pub pointOf : Points → ℕ → Complex
-pointOf s = pointAt (s .re) (s .im)
-
-abbrev pub pointsOf : (ℕ → Complex) → Points
-pointsOf f = points (column (λ i. f i .re)) (column (λ i. f i .im))
-
--- nothing at each bus
-abbrev pub noPoints : Points
-noPoints = points (replicate maxBuses nought) (replicate maxBuses nought)
-
--- the point z at bus i
-abbrev pub put : Points → ℕ → Complex → Points
-put s i z = points (set (s .re) i (z .re)) (set (s .im) i (z .im))
-
--- the tree of n buses that the columns stand for; what stands at its buses is given beside it
-abbrev pub columnGrid : ℕ → List ℕ → List ℕ → List ℕ → Grid
-columnGrid n parents above below = record {
-  count = n;
-  branch = λ i. record { parent = numberAt parents i; z = nothing; above = numberAt above i; below = numberAt below i };
-  own = λ b. nothing;
-  current = λ b. nothing;
-}

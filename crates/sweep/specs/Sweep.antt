@@ -5,12 +5,11 @@ use mathlib.Core.Bool.{Bool, false, cond}
 use lib.Dec.{ltb, eqb}
 use Rattle.enclosure.specs.declared.Complex.{Complex}
 use Rattle.enclosure.specs.Doubles.{added, doubles}
-use Rattle.tree.specs.Walk.{over}
-use Rattle.tree.specs.Grid.{Grid, parentOf, through}
+use Rattle.tree.specs.Grid.{sumOver, Grid, parentOf, through}
 use Rattle.sweep.specs.declared.columns.Points.{Points}
 use Rattle.sweep.specs.declared.sweeps.Rises.{Rises}
 use Rattle.sweep.specs.declared.sweeps.Falls.{Falls}
-use Rattle.sweep.specs.Columns.{pointOf, noPoints, put}
+use Rattle.sweep.specs.Points.{pointOf, noPoints, put}
 
 -- i is a child of b
 abbrev pub childOf : (ℕ → ℕ) → ℕ → ℕ → Bool
@@ -18,7 +17,7 @@ childOf p b i = cond (ltb b i) (eqb (p i) b) false
 
 -- a point, and what is seen at b of its children below top, the last one first
 unfoldable pub withChildren : (ℕ → ℕ) → (ℕ → Complex) → Complex → ℕ → ℕ → Complex
-withChildren p rise start b top = over added (childOf p b) rise start top
+withChildren p rise start b top = sumOver added (childOf p b) rise start top
 
 -- what is gathered at b, with what is seen there of its parent, which bus 0 has not
 unfoldable pub withParent : (ℕ → Complex) → ℕ → Complex → Complex

@@ -1,7 +1,8 @@
 // Columns: arrays with a place for each bus.
 ghost use mathlib.Core.Path.{_≡_};
 ghost use Prim.Native.Nat.{min};
-ghost use Rattle.sweep.specs.Columns.{maxBuses, numberAt, pointAt};
+ghost use Rattle.tree.specs.Limits.{maxBuses};
+ghost use Rattle.sweep.specs.Points.{numberAt, pointAt};
 use crate::BUSES;
 use enclosure::Complex;
 use enclosure::nothing;

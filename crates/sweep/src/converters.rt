@@ -3,7 +3,7 @@ ghost use mathlib.Core.Path.{_≡_};
 ghost use Prim.Native.Nat.{ℕ};
 ghost use Rattle.enclosure.specs.Doubles.{doubles};
 ghost use Rattle.tree.specs.Converters.{toRoot, fromRoot, gathered};
-ghost use Rattle.sweep.specs.Columns.{pointAt, columnGrid};
+ghost use Rattle.sweep.specs.Points.{pointAt, columnGrid};
 use crate::BUSES;
 use crate::columns::number_at;
 use crate::columns::parent_of;

@@ -3,8 +3,9 @@ ghost use mathlib.Core.Path.{_≡_};
 ghost use mathlib.Core.List.{List};
 ghost use Prim.Native.Nat.{ℕ, min};
 ghost use Rattle.enclosure.specs.Doubles.{doubles};
-ghost use Rattle.tree.specs.Grid.{square, through};
-ghost use Rattle.sweep.specs.Columns.{maxBuses, numberAt, pointAt, points, columnGrid};
+ghost use Rattle.tree.specs.Grid.{timesSquare, through};
+ghost use Rattle.tree.specs.Limits.{maxBuses};
+ghost use Rattle.sweep.specs.Points.{numberAt, pointAt, points, columnGrid};
 ghost use Rattle.sweep.specs.Sweep.{childOf, withChildren, withParent, downAt, risesOf, fallsOf, seenOf};
 use crate::BUSES;
 use crate::columns::Points;
@@ -35,7 +36,7 @@ pub struct Falls {
 
 // An impedance on the other side of a transformer: times the square of p/q.
 fn referred(z: Complex, p: u32, q: u32) -> Complex
-    ensures { λ r. ⌜ r ≡ square doubles p q z ⌝ }
+    ensures { λ r. ⌜ r ≡ timesSquare doubles p q z ⌝ }
 {
     scale(scale(z, p, q), p, q)
 }

@@ -1,14 +1,51 @@
--- A tree of buses, and the admittance seen at a bus (document 01, "Seen impedance").
--- Assumes nothing.
-use Prim.Native.Nat.{ℕ, _+_, _*_, _≤_, _<_}
-use mathlib.Core.Path.{_≡_, refl, sym, _∙_, ap}
-use mathlib.Core.Bool.{Bool, true, false, cond}
-use native.Mathlib.Omega.{arith}
-use lib.Dec.{ltb}
-use Rattle.enclosure.specs.Point.{Point, Ops, exact, sum}
-use Rattle.tree.specs.Limits.{maxBranches, walkSteps}
-use Rattle.tree.specs.Walk.{joined, near, over, Gather, walk, by-number, more-fuel, walk-equation, only-walk, walk-same, to-parent, to-child}
-use Rattle.tree.specs.Toward.{depth, by-depth}
+-- Document 01, "Seen impedance": a tree of buses, the admittance seen at a bus, and the converters' part there. The recursion is one for
+-- exact numbers and for f64; `seen` and `carried` are the exact ones.
+use mathlib.Core.Bool.{Bool, cond, false}
+use mathlib.Core.List.{List, [], _∷_}
+use Prim.Native.Nat.{ℕ, zero, suc, _+_, _*_, _<_}
+use lib.Dec.{ltb, eqb}
+use mathlib.Core.Path.{_≡_}
+use Rattle.enclosure.specs.Exact.{Point, Ops, exact, sum}
+
+-- z, and y of each element of a list that passes a test
+abbrev pub sumOf : {S A : Type 0} → (A → A → A) → (S → Bool) → (S → A) → A → List S → A
+sumOf add t y z [] = z
+sumOf add t y z (s ∷ l) = sumOf add t y (cond (t s) (add z (y s)) z) l
+
+-- the elements that pass a test
+abbrev pub filtered : {S : Type 0} → (S → Bool) → List S → List S
+filtered f [] = []
+filtered f (s ∷ l) = cond (f s) (s ∷ filtered f l) (filtered f l)
+
+-- ---- neighbours: p gives the parent of each bus but bus 0, a bus with a smaller number
+unfoldable pub joined : (ℕ → ℕ) → ℕ → ℕ → Bool
+joined p b i = cond (ltb i b) (eqb (p b) i) (cond (ltb b i) (eqb (p i) b) false)
+
+-- "each neighbour n other than a"; without none is w = b, which is no neighbour of b
+unfoldable pub neighbour : (ℕ → ℕ) → ℕ → ℕ → ℕ → Bool
+neighbour p b w i = cond (eqb i w) false (joined p b i)
+
+-- z, and what g gives for each number below n that joins, the last one first. Of exact fractions the order changes nothing; in f64 it is
+-- the order of the sweeps, children before the parent
+abbrev pub sumOver : {A : Type 0} → (A → A → A) → (ℕ → Bool) → (ℕ → A) → A → ℕ → A
+sumOver add joins g z zero = z
+sumOver add joins g z (suc k) = sumOver add joins g (cond (joins k) (add z (g k)) z) k
+
+-- what a walk gathers: what a bus has itself, how two parts add up, and what a part at i is at its neighbour b
+pub record Gather (A : Type 0) : Type 0 where
+  pub own : ℕ → A
+  pub add : A → A → A
+  pub through : ℕ → ℕ → A → A
+
+-- what is gathered at b without w, among n buses; the fuel bounds the number of branches passed
+abbrev pub walk : {A : Type 0} → Gather A → (ℕ → ℕ) → ℕ → ℕ → ℕ → ℕ → A
+walk G p n zero b w = G .own b
+walk G p n (suc fuel) b w = sumOver (G .add) (neighbour p b w) (λ i. G .through b i (walk G p n fuel i b)) (G .own b) n
+
+-- a step for each bus on the way from b to bus 0, and z there; p gives the parents. A fuel of b is enough, since the numbers fall
+abbrev pub toward : {A : Type 0} → (ℕ → ℕ) → (ℕ → A → A) → A → ℕ → ℕ → A
+toward p step z zero b = z
+toward p step z (suc f) b = cond (ltb (p b) b) (step b (toward p step z f (p b))) z
 
 -- the branch from a bus to its parent: its impedance in ohms on the bus's own side, and the rated volts on the parent's side and on the
 -- bus's own side, 1 and 1 for a line
@@ -31,8 +68,8 @@ parentOf G i = G .branch i .parent
 
 -- "Crossing a transformer multiplies impedance by the square of rated volts on the side arrived at over those on the side left": the
 -- square of p/q
-abbrev pub square : {A : Type 0} → Ops A → ℕ → ℕ → A → A
-square o p q x = o .scale p q (o .scale p q x)
+abbrev pub timesSquare : {A : Type 0} → Ops A → ℕ → ℕ → A → A
+timesSquare o p q x = o .scale p q (o .scale p q x)
 
 -- "1/(branch impedance + 1/Seen(n without b)), both impedances first referred to b; a neighbour with no such source behind it adds
 -- nothing": what is seen at i, seen from its neighbour b. Where i is the parent of b, the branch is that of b, else that of i
@@ -40,35 +77,8 @@ unfoldable pub through : {A : Type 0} → Ops A → (ℕ → A) → Grid → ℕ
 through o z G b i y =
     cond (o .empty y) (o .none)
     (cond (ltb i b)
-    (o .inverse (o .add (z b) (square o (G .branch b .below) (G .branch b .above) (o .inverse y))))
-    (o .inverse (square o (G .branch i .above) (G .branch i .below) (o .add (z i) (o .inverse y)))))
-
--- its three cases, as equations and as one rule
-module _ {A : Type 0} (o : Ops A) (z : ℕ → A) (G : Grid) (b i : ℕ) (y : A) where
-  pub through-nothing : o .empty y ≡ true → through o z G b i y ≡ o .none
-  unfolding through
-  through-nothing e = rw e
-
-  pub through-parent : o .empty y ≡ false → ltb i b ≡ true
-      → through o z G b i y ≡ o .inverse (o .add (z b) (square o (G .branch b .below) (G .branch b .above) (o .inverse y)))
-  unfolding through
-  through-parent e d = rw (e, d)
-
-  pub through-child : o .empty y ≡ false → ltb i b ≡ false
-      → through o z G b i y ≡ o .inverse (square o (G .branch i .above) (G .branch i .below) (o .add (z i) (o .inverse y)))
-  unfolding through
-  through-child e d = rw (e, d)
-
-  pub through-cases : (P : A → Type 0) → (o .empty y ≡ true → P (o .none))
-      → (o .empty y ≡ false → ltb i b ≡ true → P (o .inverse (o .add (z b) (square o (G .branch b .below) (G .branch b .above) (o .inverse y)))))
-      → (o .empty y ≡ false → ltb i b ≡ false → P (o .inverse (square o (G .branch i .above) (G .branch i .below) (o .add (z i) (o .inverse y)))))
-      → P (through o z G b i y)
-  through-cases P none parent child = go (o .empty y) (ltb i b) refl refl
-    where
-      go : (e d : Bool) → o .empty y ≡ e → ltb i b ≡ d → P (through o z G b i y)
-      go true d p q = rw (through-nothing p) (none p)
-      go false true p q = rw (through-parent p q) (parent p q)
-      go false false p q = rw (through-child p q) (child p q)
+    (o .inverse (o .add (z b) (timesSquare o (G .branch b .below) (G .branch b .above) (o .inverse y))))
+    (o .inverse (timesSquare o (G .branch i .above) (G .branch i .below) (o .add (z i) (o .inverse y)))))
 
 abbrev pub admittances : {A : Type 0} → Ops A → (ℕ → A) → (ℕ → A) → Grid → Gather A
 admittances o z own G = record { own = own; add = o .add; through = through o z G }
@@ -88,48 +98,30 @@ Treelike G = (i : ℕ) → 0 < i → i < G .count → parentOf G i < i
 -- ---- THE SENTENCE of document 01, which knows no fuel: "Seen(b without a) is the admittance at b: 1/Z of each feeder, generator and
 -- motor at b, plus, for each neighbour n other than a, .."
 abbrev pub Sentence : Grid → (ℕ → ℕ → Point) → Type 0
-Sentence G S = (b w : ℕ) → b < G .count → S b w ≡ over sum (near (parentOf G) b w) (λ i. through exact (λ j. G .branch j .z) G b i (S i b)) (G .own b) (G .count)
+Sentence G S = (b w : ℕ) → b < G .count → S b w ≡ sumOver sum (neighbour (parentOf G) b w) (λ i. through exact (λ j. G .branch j .z) G b i (S i b)) (G .own b) (G .count)
 
--- what is seen satisfies it
-pub seen-sentence : (G : Grid) → Treelike G → Sentence G (seen G)
-unfolding seen
-seen-sentence G t b w l =
-    walk-equation (admittances exact (λ i. G .branch i .z) (G .own) G) (parentOf G) (G .count) (G .count) (λ i. i) (by-number (parentOf G) (G .count) t) (2 * G .count + 1) b w l (omega arith)
+-- "each multiplied at a crossing by rated volts left over rated volts arrived at": over the branch of bus i, to its parent and from it
+abbrev pub upward : {A : Type 0} → Ops A → Grid → ℕ → A → A
+upward o G i x = o .scale (G .branch i .below) (G .branch i .above) x
 
--- and nothing else does
-pub sentence-seen : (G : Grid) → Treelike G → (S : ℕ → ℕ → Point) → Sentence G S → (b w : ℕ) → b < G .count → S b w ≡ seen G b w
-unfolding seen
-sentence-seen G t S q b w l =
-    only-walk (admittances exact (λ i. G .branch i .z) (G .own) G) (parentOf G) (G .count) (G .count) (λ i. i) (by-number (parentOf G) (G .count) t) S q (2 * G .count + 1) b w l (omega arith)
+abbrev pub downward : {A : Type 0} → Ops A → Grid → ℕ → A → A
+downward o G i x = o .scale (G .branch i .above) (G .branch i .below) x
 
--- ---- `walkSteps` ARE ENOUGH where no bus is deeper than `maxBranches`
-pub seen-steps : (G : Grid) → Treelike G → ((i : ℕ) → i < G .count → depth (parentOf G) i ≤ maxBranches) → (b w : ℕ) → b < G .count
-    → seen G b w ≡ seenBy exact (λ i. G .branch i .z) (G .own) G walkSteps b w
-unfolding seen
-seen-steps G t d b w l =
-    let W = admittances exact (λ i. G .branch i .z) (G .own) G in
-    let p = parentOf G in
-    let n = G .count in
-    more-fuel W p n n (λ i. i) (by-number p n t) (2 * n + 1) (2 * n + walkSteps) b w l (omega arith) (omega arith)
-    ∙ more-fuel W p n maxBranches (depth p) (by-depth p n maxBranches t d) (2 * n + walkSteps) walkSteps b w l (omega arith) (omega arith)
+-- a current at i, carried to its neighbour b, a child of i or its parent
+unfoldable pub across : {A : Type 0} → Ops A → Grid → ℕ → ℕ → A → A
+across o G b i x = cond (ltb i b) (downward o G b x) (upward o G i x)
 
--- ---- what is seen depends on nothing but the tree, the rated volts, the impedances and the buses' own admittances
-pub record Shaped (G H : Grid) : Type 0 where
-  pub count : G .count ≡ H .count
-  pub parent : (i : ℕ) → i < G .count → parentOf G i ≡ parentOf H i
-  pub above : (i : ℕ) → 0 < i → i < G .count → G .branch i .above ≡ H .branch i .above
-  pub below : (i : ℕ) → 0 < i → i < G .count → G .branch i .below ≡ H .branch i .below
+abbrev pub currents : {A : Type 0} → Ops A → (ℕ → A) → Grid → Gather A
+currents o c G = record { own = c; add = o .add; through = across o G }
 
-pub seen-same : {A : Type 0} (o : Ops A) (z z′ own own′ : ℕ → A) (G H : Grid) → Shaped G H
-    → ((i : ℕ) → 0 < i → i < G .count → z i ≡ z′ i) → ((b : ℕ) → b < G .count → own b ≡ own′ b)
-    → (fuel b w : ℕ) → b < G .count → seenBy o z own G fuel b w ≡ seenBy o z′ own′ H fuel b w
-seen-same {A} o z z′ own own′ G H s hz ho fuel b w l =
-    walk-same (o .add) own own′ (through o z G) (through o z′ H) (parentOf G) (parentOf H) (G .count) (s .parent) ho comes fuel b w l
-    ∙ ap (λ (n : ℕ). walk (admittances o z′ own′ H) (parentOf H) n fuel b w) (s .count)
-  where
-    comes : (b i : ℕ) (x : A) → b < G .count → i < G .count → joined (parentOf G) b i ≡ true → through o z G b i x ≡ through o z′ H b i x
-    comes b i x lb li e =
-        through-cases o z G b i x (λ t. t ≡ through o z′ H b i x)
-        (λ p. sym (through-nothing o z′ H b i x p))
-        (λ p q. let c = to-parent (parentOf G) b i e q .0 in rw (through-parent o z′ H b i x p q, hz b c lb, s .above b c lb, s .below b c lb))
-        (λ p q. let c = to-child (parentOf G) b i e q .0 in rw (through-child o z′ H b i x p q, hz i c li, s .above i c li, s .below i c li))
+-- what is gathered at b without w; w = b stands for none
+unfoldable pub carriedWithout : Grid → ℕ → ℕ → Point
+carriedWithout G = walk (currents exact (G .current) G) (parentOf G) (G .count) (2 * G .count + 1)
+
+-- DEFINITION: the converters' part at b, "the sum of rated current·k", gathered as what is seen is
+abbrev pub carried : Grid → ℕ → Point
+carried G b = carriedWithout G b b
+
+-- ---- THE SENTENCE of document 01, which knows no fuel; what is gathered satisfies it, and nothing else does
+abbrev pub CurrentSentence : Grid → (ℕ → ℕ → Point) → Type 0
+CurrentSentence G S = (b w : ℕ) → b < G .count → S b w ≡ sumOver sum (neighbour (parentOf G) b w) (λ i. across exact G b i (S i b)) (G .current b) (G .count)

@@ -1,20 +1,5 @@
+-- What contracts cite. What is proved of it is below `laws`.
 pub mod Limits
-pub mod Walk
-pub mod Toward
 pub mod Grid
 pub mod Converters
-pub mod Sums
-pub mod Bound
-pub mod Fed
-pub mod Inside
-pub mod Through
-pub mod Held
-pub mod Sound
-pub mod Seen
-pub mod Sweeps
-pub mod Equal
-pub mod Total
-pub mod Rooted
-pub mod Currents
-pub mod Sources
-pub mod Example
+pub mod laws

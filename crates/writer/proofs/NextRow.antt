@@ -9,7 +9,8 @@ use lib.ListN.{length, set, take, drop, getD, length-append, length-map, drop-of
 use lib.Seq.{length-take-le, drop-cons, getD-take}
 use Rattle.network.specs.Network.{Network}
 use Rattle.reader.specs.File.{cr, lf, comma, letterS, letterB, letterP}
-use Rattle.printing.specs.Printed.{decimal, decimal-length}
+use Rattle.printing.specs.Printed.{decimal}
+use Rattle.printing.specs.laws.Printed.{decimal-length}
 use Rattle.writer.specs.Text.{busNumbers, sourceNumbers, follow, rowText, endedRow, recordRows, textOf}
 use Rattle.writer.specs.laws.Laying.{Placed, laid, laid-byte, laid-both}
 

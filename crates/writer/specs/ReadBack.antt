@@ -6,7 +6,7 @@ use mathlib.Core.List.{List}
 use Prim.Native.Nat.{ℕ, _≤_}
 use lib.ListN.{take}
 use Rattle.network.specs.Network.{Network}
-use Rattle.network.specs.Calls.{Call, run}
+use Rattle.network.specs.Grounds.{Call, run}
 use Rattle.reader.specs.File.{maxBytes, acceptedAs, readOf}
 use Rattle.writer.specs.Text.{textOf}
 

@@ -1,5 +1,6 @@
 -- From digits to the whole text: that what is written is read as what it was written from, and how long it is; then what `write` lays
 -- into a buffer.
+pub mod Text
 pub mod Each
 pub mod TextRows
 pub mod Decimals

@@ -4,7 +4,8 @@ use Prim.Native.Nat.{_*_, _-_, _≤_}
 use native.Mathlib.Omega.{arith}
 use lib.ListN.{length, length-take}
 use lib.Ieee.{ofBits}
-use Rattle.network.specs.Network.{maxBuses, network}
+use Rattle.network.specs.Network.{maxBuses}
+use Rattle.network.specs.Network.{network}
 use Rattle.bench.specs.Queries.{sumsOf}
 use Rattle.bench.specs.Boards.{boardsOf, board-more}
 use Rattle.bench.proofs.Arrays.{length-mapped}

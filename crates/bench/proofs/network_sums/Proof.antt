@@ -1,3 +1,4 @@
+-- `network_sums` meets its contract: the sums for the study that a text gives.
 use Prim.Native.Nat.{_+_}
 use mathlib.Core.Path.{ap, _∙_}
 use Rattle.bench.specs.Queries.{sumsOf}

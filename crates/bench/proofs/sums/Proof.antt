@@ -1,3 +1,4 @@
+-- `sums` meets its contract. The invariant: the answers so far are added up.
 use mathlib.Core.Path.{_≡_, refl, sym, ap, ap₂, _∙_}
 use Prim.Native.Nat.{_-_, _≤_}
 use native.Mathlib.Omega.{arith}

@@ -5,9 +5,9 @@ use Prim.Native.Nat.{ℕ, _-_, _≤_, _<_}
 use native.Mathlib.Omega.{arith}
 use lib.Ieee.{binary64, add}
 use lib.ListN.{length, getD}
-use Rattle.network.specs.declared.Found.{Found}
+use Rattle.network.specs.declared.query.Found.{Found}
 use Rattle.network.specs.Network.{maxBuses}
-use Rattle.network.specs.QueryAll.{refusedBy, rowAt}
+use Rattle.network.specs.Query.{refusedBy, rowAt}
 use Rattle.bench.specs.Queries.{sumOf}
 use Rattle.bench.specs.Boards.{rowsAdded, rows-more}
 use Rattle.bench.proofs.Arrays.{length-mapped, read-within}

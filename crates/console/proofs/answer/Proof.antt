@@ -1,7 +1,7 @@
 -- `console::answer` has the effect of its line, too long or not. Assumes nothing.
 use mathlib.Core.Path.{_∙_}
 use Rattle.network.specs.Network.{network}
-use Rattle.console.specs.EffectsLaw.{line-long, line-call}
+use Rattle.console.specs.laws.EffectsLaw.{line-long, line-call}
 use borrow.Author.Needs.{needs}
 use Rattle.console.proofs.answer.Statement.{statement}
 use Rattle.console.proofs.answer.Tie as tie

@@ -1,7 +1,7 @@
 -- `enclosure::of` computes its model. Assumes nothing.
 use borrow.Author.Needs.{needs}
 use lib.Ieee.{ofInt}
-use Rattle.enclosure.specs.Doubles.{whole}
+use Rattle.enclosure.specs.Doubles.{wholePoint}
 use Rattle.enclosure.proofs.of.Statement.{statement}
 use Rattle.enclosure.proofs.of.Tie as tie
 
@@ -12,7 +12,7 @@ int-to-float-t4 : tie.Need-int-to-float-t4
 int-to-float-t4 c = search needs
 
 returns : tie.Need-returns
-unfolding ofInt whole
+unfolding ofInt wholePoint
 returns c = search needs
 
 pub of-spec : {M : Type 1} → statement M

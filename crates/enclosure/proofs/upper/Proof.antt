@@ -3,7 +3,7 @@ use native.Mathlib.Omega.{arith}
 use mathlib.Core.Path.{sym, _∙_}
 use borrow.Author.Needs.{needs}
 use Rattle.enclosure.specs.Doubles.{upperOf}
-use Rattle.enclosure.specs.Climb.{size-small}
+use Rattle.enclosure.specs.laws.Climb.{size-small}
 use Rattle.enclosure.proofs.upper.Statement.{statement}
 use Rattle.enclosure.proofs.upper.Tie as tie
 

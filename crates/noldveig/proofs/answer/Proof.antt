@@ -4,7 +4,8 @@ use Prim.Native.Nat.{ℕ}
 use native.Mathlib.Omega.{arith}
 use borrow.Author.Needs.{needs}
 use Rattle.reader.specs.File.{readOf}
-use Rattle.noldveig.specs.Rows.{boardText, printed-board, printed-refusal}
+use Rattle.noldveig.specs.Rows.{boardText}
+use Rattle.noldveig.specs.laws.Rows.{printed-board, printed-refusal}
 use Rattle.noldveig.proofs.answer.Statement.{statement}
 use Rattle.noldveig.proofs.answer.Tie as tie
 

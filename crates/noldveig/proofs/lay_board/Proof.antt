@@ -5,11 +5,13 @@ use mathlib.Core.List.{List, _++_}
 use Prim.Native.Nat.{ℕ, _*_, _-_, _≤_}
 use native.Mathlib.Omega.{arith}
 use lib.ListN.{length, take, length-take}
-use Rattle.network.specs.Network.{network, maxBuses}
-use Rattle.network.specs.QueryAll.{refusedBy}
-use Rattle.network.specs.declared.Found.{Found}
+use Rattle.network.specs.Network.{network}
+use Rattle.network.specs.Network.{maxBuses}
+use Rattle.network.specs.Query.{refusedBy}
+use Rattle.network.specs.declared.query.Found.{Found}
 use Rattle.printing.specs.Line.{room}
-use Rattle.noldveig.specs.Rows.{busRow, rowsText, rows-more}
+use Rattle.noldveig.specs.Rows.{busRow, rowsText}
+use Rattle.noldveig.specs.laws.Rows.{rows-more}
 use Rattle.noldveig.proofs.Arrays.{length-mapped, read-within}
 use borrow.Author.Needs.{needs}
 use Rattle.noldveig.proofs.lay_board.Statement.{statement}

@@ -4,7 +4,7 @@ use mathlib.Core.List.{List, _++_}
 use Prim.Native.Nat.{ℕ}
 use lib.ListN.{length, take}
 use native.Mathlib.Omega.{arith}
-use Rattle.noldveig.specs.Rows.{bus-fits}
+use Rattle.noldveig.specs.laws.Rows.{bus-fits}
 use borrow.Author.Needs.{needs}
 use Rattle.noldveig.proofs.lay_bus.Statement.{statement}
 use Rattle.noldveig.proofs.lay_bus.Tie as tie

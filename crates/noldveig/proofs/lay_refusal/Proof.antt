@@ -2,7 +2,7 @@
 use mathlib.Core.Path.{_∙_, ap}
 use lib.ListN.{length}
 use native.Mathlib.Omega.{arith}
-use Rattle.noldveig.specs.Rows.{refusal-fits}
+use Rattle.noldveig.specs.laws.Rows.{refusal-fits}
 use borrow.Author.Needs.{needs}
 use Rattle.noldveig.proofs.lay_refusal.Statement.{statement}
 use Rattle.noldveig.proofs.lay_refusal.Tie as tie

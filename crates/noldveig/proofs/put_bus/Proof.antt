@@ -1,7 +1,8 @@
 -- `noldveig::put_bus` meets its contract: the four texts follow one another, and there is room for them. Assumes nothing.
 use borrow.Author.Needs.{needs}
-use Rattle.printing.specs.Line.{after-both, first-is-text}
-use Rattle.noldveig.specs.Rows.{busRow, bus-fits}
+use Rattle.printing.specs.laws.Line.{after-both, first-is-text}
+use Rattle.noldveig.specs.Rows.{busRow}
+use Rattle.noldveig.specs.laws.Rows.{bus-fits}
 use Rattle.noldveig.proofs.put_bus.Statement.{statement}
 use Rattle.noldveig.proofs.put_bus.Tie as tie
 

@@ -1,7 +1,8 @@
 -- `noldveig::put_refusal` meets its contract: the four texts follow one another, and there is room for them. Assumes nothing.
 use borrow.Author.Needs.{needs}
-use Rattle.printing.specs.Line.{after-both, first-is-text}
-use Rattle.noldveig.specs.Rows.{refusalRow, refusal-fits}
+use Rattle.printing.specs.laws.Line.{after-both, first-is-text}
+use Rattle.noldveig.specs.Rows.{refusalRow}
+use Rattle.noldveig.specs.laws.Rows.{refusal-fits}
 use Rattle.noldveig.proofs.put_refusal.Statement.{statement}
 use Rattle.noldveig.proofs.put_refusal.Tie as tie
 

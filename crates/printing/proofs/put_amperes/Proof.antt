@@ -1,6 +1,6 @@
 -- `printing::put_amperes` meets its contract: the six currents follow one another. Assumes nothing.
 use borrow.Author.Needs.{needs}
-use Rattle.printing.specs.Line.{after-both}
+use Rattle.printing.specs.laws.Line.{after-both}
 use Rattle.printing.specs.Printed.{amperesText}
 use Rattle.printing.proofs.put_amperes.Statement.{statement}
 use Rattle.printing.proofs.put_amperes.Tie as tie

@@ -1,6 +1,6 @@
 -- `printing::put_letter` meets its contract: a comma and the letter follow one another. Assumes nothing.
 use borrow.Author.Needs.{needs}
-use Rattle.printing.specs.Line.{after-both}
+use Rattle.printing.specs.laws.Line.{after-both}
 use Rattle.printing.specs.Printed.{letterText}
 use Rattle.printing.proofs.put_letter.Statement.{statement}
 use Rattle.printing.proofs.put_letter.Tie as tie

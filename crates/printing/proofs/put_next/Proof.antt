@@ -1,6 +1,6 @@
 -- `printing::put_next` meets its contract: a comma and the number follow one another. Assumes nothing.
 use borrow.Author.Needs.{needs}
-use Rattle.printing.specs.Line.{after-both}
+use Rattle.printing.specs.laws.Line.{after-both}
 use Rattle.printing.specs.Printed.{nextText}
 use Rattle.printing.proofs.put_next.Statement.{statement}
 use Rattle.printing.proofs.put_next.Tie as tie

@@ -1,3 +1,4 @@
+-- `closed_after` meets its contract, by whether the study can be closed.
 use mathlib.Core.Path.{ap, sym, _∙_}
 use borrow.Author.Needs.{needs}
 use Rattle.network.specs.Network.{network}

@@ -1,8 +1,9 @@
+-- `read` meets its contract: a text that is empty or too long is refused, any other is read row by row.
 use mathlib.Core.Path.{_≡_, refl, ap, _∙_}
 use borrow.Author.Needs.{needs}
 use lib.ListN.{length}
 use Rattle.network.specs.Network.{network}
-use Rattle.network.specs.Booleans.{within-true}
+use Rattle.network.specs.laws.Tests.{within-true}
 use Rattle.reader.specs.declared.Reading.{Reading}
 use Rattle.reader.specs.File.{maxBytes, Outcome, outcomeOf, readIn}
 use Rattle.reader.proofs.read.Statement.{statement}

@@ -1,10 +1,11 @@
+-- `read_rows` meets its contract. The invariant: the rows that are left give the outcome of all.
 use mathlib.Core.Path.{_≡_, ap, sym, _∙_}
 use Prim.Native.Nat.{_+_, _-_, _≤_}
 use native.Mathlib.Omega.{arith}
 use borrow.Author.Needs.{needs}
 use lib.ListN.{length, drop}
 use Rattle.network.specs.Network.{Network, network}
-use Rattle.network.specs.Calls.{emptyNetwork}
+use Rattle.network.specs.Grounds.{emptyNetwork}
 use Rattle.reader.specs.File.{rows, readFrom}
 use Rattle.reader.proofs.Taking.{row-accepted, row-refused, rows-end}
 use Rattle.reader.proofs.read_rows.Statement.{statement}

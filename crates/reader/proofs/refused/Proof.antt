@@ -1,3 +1,4 @@
+-- `refused` meets its contract: starting with 6 leaves an empty open study of tolerance 6.
 use borrow.Author.Needs.{needs}
 use Rattle.reader.proofs.refused.Statement.{statement}
 use Rattle.reader.proofs.refused.Tie as tie

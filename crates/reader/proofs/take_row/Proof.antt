@@ -1,3 +1,4 @@
+-- `take_row` meets its contract, by what the row says: each is the call that it stands for.
 use borrow.Author.Needs.{needs}
 use Rattle.reader.proofs.take_row.Statement.{statement}
 use Rattle.reader.proofs.take_row.Tie as tie

@@ -12,7 +12,9 @@ use borrow.Author.Tests.{lt-ltb}
 use Rattle.enclosure.specs.declared.Complex.{Complex}
 use Rattle.enclosure.specs.Doubles.{nought, none}
 use Rattle.sweep.specs.declared.columns.Points.{Points}
-use Rattle.sweep.specs.Columns.{maxBuses, listed, column, numberAt, pointAt, points, pointOf, pointsOf, noPoints, put}
+use Rattle.tree.specs.Limits.{maxBuses}
+use Rattle.sweep.specs.Columns.{listed, column}
+use Rattle.sweep.specs.Points.{numberAt, pointAt, points, pointOf, pointsOf, noPoints, put}
 
 -- ---- what is listed
 length-listed : {A : Type 0} (f : ℕ → A) (i n : ℕ) → length (listed f i n) ≡ n

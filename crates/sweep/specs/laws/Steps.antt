@@ -7,11 +7,11 @@ use native.Mathlib.Numerals.{add-one}
 use borrow.Author.Tests.{le-ltb, lt-ltb}
 use Rattle.enclosure.specs.declared.Complex.{Complex}
 use Rattle.enclosure.specs.Doubles.{added, doubles}
-use Rattle.tree.specs.Walk.{over, over-none}
-use Rattle.tree.specs.Grid.{Grid, parentOf, through}
+use Rattle.tree.specs.Grid.{sumOver, Grid, parentOf, through}
+use Rattle.tree.specs.laws.Walk.{over-none}
 use Rattle.sweep.specs.declared.sweeps.Rises.{Rises}
 use Rattle.sweep.specs.declared.sweeps.Falls.{Falls}
-use Rattle.sweep.specs.Columns.{pointOf, put}
+use Rattle.sweep.specs.Points.{pointOf, put}
 use Rattle.sweep.specs.Sweep.{childOf, upStep, upFrom, downAt, downStep, fallTo}
 
 module _ (z : ℕ → Complex) (G : Grid) where
@@ -50,7 +50,7 @@ module _ (z : ℕ → Complex) (G : Grid) where
 
 module _ {A : Type 0} (add : A → A → A) (joins : ℕ → Bool) (g : ℕ → A) (z : A) where
   -- the last one is added, or passed over
-  pub over-added : (i : ℕ) (x : A) → 0 < i → joins (i - 1) ≡ true → x ≡ add z (g (i - 1)) → over add joins g x (i - 1) ≡ over add joins g z i
+  pub over-added : (i : ℕ) (x : A) → 0 < i → joins (i - 1) ≡ true → x ≡ add z (g (i - 1)) → sumOver add joins g x (i - 1) ≡ sumOver add joins g z i
   over-added zero x h j e = absurd (omega arith)
   over-added (suc k) x h j e =
       let q : suc k - 1 ≡ k = omega arith in
@@ -58,7 +58,7 @@ module _ {A : Type 0} (add : A → A → A) (joins : ℕ → Bool) (g : ℕ → 
       let e′ : x ≡ add z (g k) = rw q at e in
       rw (q, e′, j′)
 
-  pub over-passed : (i : ℕ) → 0 < i → joins (i - 1) ≡ false → over add joins g z (i - 1) ≡ over add joins g z i
+  pub over-passed : (i : ℕ) → 0 < i → joins (i - 1) ≡ false → sumOver add joins g z (i - 1) ≡ sumOver add joins g z i
   over-passed zero h j = absurd (omega arith)
   over-passed (suc k) h j =
       let q : suc k - 1 ≡ k = omega arith in
@@ -66,5 +66,5 @@ module _ {A : Type 0} (add : A → A → A) (joins : ℕ → Bool) (g : ℕ → 
       rw (q, j′)
 
 -- nothing at or below b is a child of b
-pub over-past : {A : Type 0} (add : A → A → A) (p : ℕ → ℕ) (g : ℕ → A) (z : A) (b i : ℕ) → i ≤ suc b → over add (childOf p b) g z i ≡ z
+pub over-past : {A : Type 0} (add : A → A → A) (p : ℕ → ℕ) (g : ℕ → A) (z : A) (b i : ℕ) → i ≤ suc b → sumOver add (childOf p b) g z i ≡ z
 over-past add p g z b i h = over-none add (childOf p b) g z i (λ k l. rw (le-ltb b k (omega arith)))

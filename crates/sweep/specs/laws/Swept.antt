@@ -9,14 +9,14 @@ use lib.Dec.{ltb, eqb}
 use borrow.Author.Tests.{lt-ltb, le-ltb, eqb-true, eqb-false}
 use Rattle.enclosure.specs.declared.Complex.{Complex}
 use Rattle.enclosure.specs.Doubles.{added, doubles}
-use Rattle.tree.specs.Limits.{maxBranches, walkSteps}
-use Rattle.tree.specs.Toward.{depth}
+use Rattle.tree.specs.Limits.{maxBranches, walkSteps, maxBuses}
+use Rattle.tree.specs.laws.Toward.{depth}
 use Rattle.tree.specs.Grid.{Grid, parentOf, Treelike, through, seenBy}
-use Rattle.tree.specs.Sweeps.{overFrom, over-from, from-same, gathersPast, gathersBeside, Swept, swept-walk, gathers-up, gathers-all, gathers-down}
+use Rattle.tree.specs.laws.Sweeps.{overFrom, over-from, from-same, gathersPast, gathersBeside, Swept, swept-walk, gathers-up, gathers-all, gathers-down}
 use Rattle.sweep.specs.declared.columns.Points.{Points}
 use Rattle.sweep.specs.declared.sweeps.Rises.{Rises}
 use Rattle.sweep.specs.declared.sweeps.Falls.{Falls}
-use Rattle.sweep.specs.Columns.{maxBuses, pointOf, noPoints, put}
+use Rattle.sweep.specs.Points.{pointOf, noPoints, put}
 use Rattle.sweep.specs.Sweep.{childOf, withChildren, withParent, riseOf, handedOn, upStep, upFrom, risesOf, downAt, taken, downStep, fallTo, fallsOf, seenOf}
 use Rattle.sweep.specs.laws.Columns.{Sized, no-points-sized, put-sized, put-same, put-other}
 use Rattle.sweep.specs.laws.Steps.{over-past}

@@ -5,7 +5,7 @@ use mathlib.Core.List.{List}
 use Prim.Native.Nat.{ℕ, _+_, _-_, _≤_}
 use native.Mathlib.Omega.{arith}
 use lib.ListN.{length, drop, getD, drop-of-length-le}
-use Rattle.printing.specs.Printed.{decimal-length}
+use Rattle.printing.specs.laws.Printed.{decimal-length}
 use Rattle.writer.proofs.NextRow.{numbersText, next-number-length, numbers-most, ended-row-length}
 use borrow.Author.Needs.{needs}
 use Rattle.writer.proofs.row_size.Statement.{statement}

@@ -7,8 +7,8 @@ use native.Mathlib.Omega.{arith}
 use lib.ListN.{length, take, drop}
 use lib.Seq.{take-append-seam}
 use Rattle.network.specs.Network.{Network}
-use Rattle.network.specs.Calls.{Call}
-use Rattle.network.specs.Rebuilt.{Rebuilt, run-rebuilt}
+use Rattle.network.specs.Grounds.{Call}
+use Rattle.network.specs.laws.Rebuilt.{Rebuilt, run-rebuilt}
 use Rattle.writer.specs.Text.{textOf}
 use Rattle.writer.specs.Writing.{writeNumber, writeLength, afterWrite}
 use Rattle.writer.specs.ReadBack.{ReadBackPromise}

@@ -6,7 +6,7 @@ use Prim.Native.Nat.{ℕ, _≤_, _<_}
 use borrow.Author.Tests.{le-leb, lt-leb, leb-true, eq-eqb, ne-eqb}
 use lib.ListN.{length, drop}
 use Rattle.network.specs.Network.{Network}
-use Rattle.network.specs.Acceptance.{ground}
+use Rattle.network.specs.laws.Acceptance.{ground}
 use Rattle.writer.specs.Text.{textOf}
 use Rattle.writer.specs.Writing.{writeGrounds, writeNumber, writeLength, afterWrite}
 

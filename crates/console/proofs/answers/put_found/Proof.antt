@@ -1,9 +1,10 @@
 -- `console::answers::put_found` meets its contract: the five texts follow one another, and there is room for them. Assumes nothing.
 use mathlib.Core.Path.{ap, _∙_}
 use borrow.Author.Needs.{needs}
-use Rattle.printing.specs.Line.{after-both, first-is-text}
+use Rattle.printing.specs.laws.Line.{after-both, first-is-text}
 use Rattle.printing.specs.Printed.{wholeOf}
-use Rattle.console.specs.Answers.{foundLine, found-fits}
+use Rattle.console.specs.Answers.{foundLine}
+use Rattle.console.specs.laws.Answers.{found-fits}
 use Rattle.console.proofs.answers.put_found.Statement.{statement}
 use Rattle.console.proofs.answers.put_found.Tie as tie
 

@@ -1,7 +1,8 @@
 -- `console::answers::put_ground` meets its contract: the two texts follow one another, and there is room for them. Assumes nothing.
 use borrow.Author.Needs.{needs}
-use Rattle.printing.specs.Line.{after-both, first-is-text}
-use Rattle.console.specs.Answers.{numberLine, number-fits}
+use Rattle.printing.specs.laws.Line.{after-both, first-is-text}
+use Rattle.console.specs.Answers.{numberLine}
+use Rattle.console.specs.laws.Answers.{number-fits}
 use Rattle.console.proofs.answers.put_ground.Statement.{statement}
 use Rattle.console.proofs.answers.put_ground.Tie as tie
 

@@ -2,10 +2,10 @@
 use mathlib.Core.Path.{_∙_, ap, ap₂}
 use Rattle.network.specs.Network.{network}
 use Rattle.network.specs.Grounds.{busNumber, afterBus}
-use Rattle.network.specs.declared.Bus.{Bus}
+use Rattle.network.specs.declared.study.Bus.{Bus}
 use Rattle.reader.specs.File.{busFields}
 use Rattle.console.specs.Effects.{ground, busBy}
-use Rattle.console.specs.EffectsLaw.{numbers-taken, numbers-wrong}
+use Rattle.console.specs.laws.EffectsLaw.{numbers-taken, numbers-wrong}
 use borrow.Author.Needs.{needs}
 use Rattle.console.proofs.calls.make_bus.Statement.{statement}
 use Rattle.console.proofs.calls.make_bus.Tie as tie

@@ -4,7 +4,7 @@ use mathlib.Core.Bool.{false}
 use Rattle.network.specs.Network.{network}
 use Rattle.console.specs.Lines.{beginsWith, isWord}
 use Rattle.console.specs.Effects.{startEffect, busEffect, sourceEffect, queryEffect, readEffect, writeEffect, startWord, busWord, sourceWord, closeWord, queryWord, readWord, writeWord}
-use Rattle.console.specs.EffectsLaw.{call-start, call-bus, call-source, call-close, call-query, call-read, call-write, call-unknown}
+use Rattle.console.specs.laws.EffectsLaw.{call-start, call-bus, call-source, call-close, call-query, call-read, call-write, call-unknown}
 use borrow.Author.Needs.{needs}
 use Rattle.console.proofs.calls.make_call.Statement.{statement}
 use Rattle.console.proofs.calls.make_call.Tie as tie

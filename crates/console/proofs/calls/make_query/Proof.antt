@@ -1,10 +1,10 @@
 -- `console::calls::make_query` has its effect, with one number or without, and keeps the study. Assumes nothing.
 use mathlib.Core.Path.{refl, _∙_, ap}
 use Rattle.network.specs.Network.{network}
-use Rattle.network.specs.declared.Found.{Found}
+use Rattle.network.specs.declared.query.Found.{Found}
 use Rattle.console.specs.Answers.{foundLine}
 use Rattle.console.specs.Effects.{Effect, queryBy}
-use Rattle.console.specs.EffectsLaw.{numbers-taken, numbers-wrong, found-given}
+use Rattle.console.specs.laws.EffectsLaw.{numbers-taken, numbers-wrong, found-given}
 use borrow.Author.Needs.{needs}
 use Rattle.console.proofs.calls.make_query.Statement.{statement}
 use Rattle.console.proofs.calls.make_query.Tie as tie

@@ -5,7 +5,7 @@ use Prim.Native.Nat.{ℕ}
 use Rattle.network.specs.Network.{network}
 use Rattle.reader.specs.File.{readOf}
 use Rattle.console.specs.Effects.{readBy}
-use Rattle.console.specs.EffectsLaw.{read-broken, read-bytes, read-parts}
+use Rattle.console.specs.laws.EffectsLaw.{read-broken, read-bytes, read-parts}
 use borrow.Author.Needs.{needs}
 use Rattle.console.proofs.calls.make_read.Statement.{statement}
 use Rattle.console.proofs.calls.make_read.Tie as tie

@@ -2,10 +2,10 @@
 use mathlib.Core.Path.{_∙_, ap, ap₂}
 use Rattle.network.specs.Network.{network}
 use Rattle.network.specs.Grounds.{sourceNumber, afterSource}
-use Rattle.network.specs.declared.Source.{Source}
+use Rattle.network.specs.declared.study.Source.{Source}
 use Rattle.reader.specs.File.{sourceFields}
 use Rattle.console.specs.Effects.{ground, sourceBy}
-use Rattle.console.specs.EffectsLaw.{numbers-taken, numbers-wrong}
+use Rattle.console.specs.laws.EffectsLaw.{numbers-taken, numbers-wrong}
 use borrow.Author.Needs.{needs}
 use Rattle.console.proofs.calls.make_source.Statement.{statement}
 use Rattle.console.proofs.calls.make_source.Tie as tie

@@ -2,7 +2,7 @@
 use mathlib.Core.Path.{_∙_, ap₂}
 use Rattle.network.specs.Network.{network}
 use Rattle.console.specs.Effects.{ground, startBy}
-use Rattle.console.specs.EffectsLaw.{numbers-taken, numbers-wrong}
+use Rattle.console.specs.laws.EffectsLaw.{numbers-taken, numbers-wrong}
 use borrow.Author.Needs.{needs}
 use Rattle.console.proofs.calls.make_start.Statement.{statement}
 use Rattle.console.proofs.calls.make_start.Tie as tie

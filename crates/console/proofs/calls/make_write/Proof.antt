@@ -8,7 +8,7 @@ use Rattle.network.specs.Network.{network}
 use Rattle.writer.specs.Writing.{writeNumber, writeLength, afterWrite}
 use Rattle.console.specs.Answers.{filler}
 use Rattle.console.specs.Effects.{writeBy}
-use Rattle.console.specs.EffectsLaw.{numbers-taken, numbers-wrong, write-parts, room-lent, room-refused}
+use Rattle.console.specs.laws.EffectsLaw.{numbers-taken, numbers-wrong, write-parts, room-lent, room-refused}
 use native.Mathlib.Omega.{arith}
 use borrow.Author.Needs.{needs}
 use Rattle.console.proofs.calls.make_write.Statement.{statement}

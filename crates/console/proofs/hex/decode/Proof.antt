@@ -4,7 +4,7 @@ use mathlib.Core.List.{_++_}
 use Prim.Native.Nat.{_+_, _-_, _/_, _≤_, _<_}
 use lib.ListN.{length, take, drop, length-set}
 use Rattle.console.specs.Lines.{hexPairs, hexBytes}
-use Rattle.console.specs.LinesLaw.{pairs-odd, pairs-high, pairs-low, decoded-more, decoded-byte, decoded-broken, decoded-long, decoded-whole, decoded-bytes}
+use Rattle.console.specs.laws.Lines.{pairs-odd, pairs-high, pairs-low, decoded-more, decoded-byte, decoded-broken, decoded-long, decoded-whole, decoded-bytes}
 use native.Mathlib.Omega.{arith}
 use borrow.Author.Needs.{needs}
 use Rattle.console.proofs.hex.decode.Statement.{statement}

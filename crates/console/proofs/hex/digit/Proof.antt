@@ -1,6 +1,6 @@
 -- `console::hex::digit` is the digit of its definition, range by range. Assumes nothing.
 use native.Mathlib.Omega.{arith}
-use Rattle.console.specs.LinesLaw.{digit-number, digit-capital, digit-small, none-below, none-before-capitals, none-before-small, none-above}
+use Rattle.console.specs.laws.Lines.{digit-number, digit-capital, digit-small, none-below, none-before-capitals, none-before-small, none-above}
 use borrow.Author.Needs.{needs}
 use Rattle.console.proofs.hex.digit.Statement.{statement}
 use Rattle.console.proofs.hex.digit.Tie as tie

@@ -8,7 +8,8 @@ use native.Mathlib.Numerals.{add-one}
 use lib.ListN.{length, drop, getD, drop-of-length-le}
 use lib.Seq.{drop-cons}
 use borrow.Author.Needs.{needs}
-use Rattle.printing.specs.Line.{Line, afterText, after-both}
+use Rattle.printing.specs.Line.{Line, afterText}
+use Rattle.printing.specs.laws.Line.{after-both}
 use Rattle.console.specs.Answers.{hexByte, hexText}
 use Rattle.console.proofs.hex.put_hex.Statement.{statement}
 use Rattle.console.proofs.hex.put_hex.Tie as tie

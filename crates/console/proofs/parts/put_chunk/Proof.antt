@@ -4,8 +4,9 @@ use mathlib.Core.List.{List}
 use Prim.Native.Nat.{ℕ}
 use lib.ListN.{take}
 use borrow.Author.Needs.{needs}
-use Rattle.printing.specs.Line.{first-is-text}
-use Rattle.console.specs.Answers.{chunk, chunkOf, chunk-fits}
+use Rattle.printing.specs.laws.Line.{first-is-text}
+use Rattle.console.specs.Answers.{chunk, chunkOf}
+use Rattle.console.specs.laws.Answers.{chunk-fits}
 use Rattle.console.proofs.parts.put_chunk.Statement.{statement}
 use Rattle.console.proofs.parts.put_chunk.Tie as tie
 

@@ -1,7 +1,8 @@
 -- `console::parts::put_head` meets its contract: the three texts follow one another, and there is room for them. Assumes nothing.
 use borrow.Author.Needs.{needs}
-use Rattle.printing.specs.Line.{after-both, first-is-text}
-use Rattle.console.specs.Answers.{writtenHead, head-fits}
+use Rattle.printing.specs.laws.Line.{after-both, first-is-text}
+use Rattle.console.specs.Answers.{writtenHead}
+use Rattle.console.specs.laws.Answers.{head-fits}
 use Rattle.console.proofs.parts.put_head.Statement.{statement}
 use Rattle.console.proofs.parts.put_head.Tie as tie
 

@@ -3,7 +3,7 @@ use mathlib.Core.Path.{_≡_, refl, sym, _∙_}
 use Prim.Native.Nat.{_≤_, _-_}
 use lib.ListN.{length, drop}
 use Rattle.console.specs.Lines.{beginsWith}
-use Rattle.console.specs.LinesLaw.{begins-short, begins-next, begins-other, begins-all}
+use Rattle.console.specs.laws.Lines.{begins-short, begins-next, begins-other, begins-all}
 use native.Mathlib.Omega.{arith}
 use Rattle.console.proofs.words.begins.Statement.{statement}
 use Rattle.console.proofs.words.begins.Tie as tie

@@ -5,8 +5,9 @@ use native.Mathlib.Omega.{arith}
 use native.Mathlib.Nat.{mul-le-mul, le-refl, lt-of-le-of-lt}
 use lib.Dec.{lit<}
 use borrow.Author.Needs.{needs}
-use Rattle.elements.specs.PeakTable.{peakFactor, peakFactor-sized}
-use Rattle.elements.specs.FineTable.{fineFactor}
+use Rattle.elements.specs.Factors.{peakFactor}
+use Rattle.elements.specs.laws.PeakTable.{peakFactor-sized}
+use Rattle.elements.specs.Doubles.{fineFactor}
 use Rattle.elements.proofs.factors.fine_factor.Statement.{statement}
 use Rattle.elements.proofs.factors.fine_factor.Tie as tie
 

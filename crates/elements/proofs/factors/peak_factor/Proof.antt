@@ -4,7 +4,8 @@ use mathlib.Core.Path.{ap, sym, _∙_}
 use native.Mathlib.Nat.{min-eq-left, min-eq-right}
 use native.Mathlib.Omega.{arith}
 use borrow.Author.Needs.{needs}
-use Rattle.elements.specs.PeakTable.{peakFactor, peaks-rule}
+use Rattle.elements.specs.Factors.{peakFactor}
+use Rattle.elements.specs.laws.PeakTable.{peaks-rule}
 use Rattle.elements.proofs.factors.peak_factor.Statement.{statement}
 use Rattle.elements.proofs.factors.peak_factor.Tie as tie
 

@@ -5,7 +5,8 @@ use native.Mathlib.Omega.{arith}
 use native.Mathlib.Nat.{mul-le-mul, lt-of-le-of-lt}
 use lib.Dec.{lit<}
 use borrow.Author.Needs.{needs}
-use Rattle.elements.specs.Factors.{uxOf, ux-none, product-most, root-fits}
+use Rattle.elements.specs.Factors.{uxOf}
+use Rattle.elements.specs.laws.Factors.{ux-none, product-most, root-fits}
 use Rattle.elements.proofs.factors.reactance.Statement.{statement}
 use Rattle.elements.proofs.factors.reactance.Tie as tie
 

@@ -3,7 +3,8 @@
 use native.Mathlib.Omega.{arith}
 use native.Mathlib.Nat.{mul-le-mul}
 use borrow.Author.Needs.{needs}
-use Rattle.elements.specs.Factors.{sineOf, sine-least, rootUp-fits}
+use Rattle.elements.specs.Factors.{sineOf}
+use Rattle.elements.specs.laws.Factors.{sine-least, rootUp-fits}
 use Rattle.elements.proofs.factors.sine.Statement.{statement}
 use Rattle.elements.proofs.factors.sine.Tie as tie
 

@@ -4,7 +4,8 @@ use native.Mathlib.Omega.{arith}
 use native.Mathlib.Nat.{lt-of-le-of-lt, div-le-self}
 use lib.Dec.{lit<}
 use borrow.Author.Needs.{needs}
-use Rattle.elements.specs.Factors.{splitOf, product-most, root-fits}
+use Rattle.elements.specs.Factors.{splitOf}
+use Rattle.elements.specs.laws.Factors.{product-most, root-fits}
 use Rattle.elements.proofs.factors.split_factor.Statement.{statement}
 use Rattle.elements.proofs.factors.split_factor.Tie as tie
 

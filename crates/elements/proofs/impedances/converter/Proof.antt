@@ -1,6 +1,6 @@
 -- `elements::impedances::converter` computes its definition. Assumes nothing.
 use borrow.Author.Needs.{needs}
-use Rattle.elements.specs.Rounded.{converterBy}
+use Rattle.elements.specs.Doubles.{converterBy}
 use Rattle.elements.proofs.impedances.converter.Statement.{statement}
 use Rattle.elements.proofs.impedances.converter.Tie as tie
 

@@ -1,6 +1,6 @@
 -- `elements::impedances::feeder` computes its definition. Assumes nothing.
 use borrow.Author.Needs.{needs}
-use Rattle.elements.specs.Rounded.{feederBy}
+use Rattle.elements.specs.Doubles.{feederBy}
 use Rattle.elements.proofs.impedances.feeder.Statement.{statement}
 use Rattle.elements.proofs.impedances.feeder.Tie as tie
 

@@ -3,8 +3,8 @@ use native.Mathlib.Nat.{mul-le-mul}
 use native.Mathlib.Omega.{arith}
 use borrow.Author.Needs.{needs}
 use borrow.Author.Tests.{le-leb, lt-leb}
-use Rattle.elements.specs.Sizes.{saturation-most}
-use Rattle.elements.specs.Rounded.{generatorBy}
+use Rattle.elements.specs.laws.FactorSizes.{saturation-most}
+use Rattle.elements.specs.Doubles.{generatorBy}
 use Rattle.elements.proofs.impedances.generator.Statement.{statement}
 use Rattle.elements.proofs.impedances.generator.Tie as tie
 

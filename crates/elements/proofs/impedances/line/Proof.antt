@@ -1,6 +1,6 @@
 -- `elements::impedances::line` computes its definition. Assumes nothing.
 use borrow.Author.Needs.{needs}
-use Rattle.elements.specs.Rounded.{lineBy}
+use Rattle.elements.specs.Doubles.{lineBy}
 use Rattle.elements.proofs.impedances.line.Statement.{statement}
 use Rattle.elements.proofs.impedances.line.Tie as tie
 

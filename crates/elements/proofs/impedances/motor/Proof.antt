@@ -1,6 +1,6 @@
 -- `elements::impedances::motor` computes its definition. Assumes nothing.
 use borrow.Author.Needs.{needs}
-use Rattle.elements.specs.Rounded.{motorBy}
+use Rattle.elements.specs.Doubles.{motorBy}
 use Rattle.elements.proofs.impedances.motor.Statement.{statement}
 use Rattle.elements.proofs.impedances.motor.Tie as tie
 

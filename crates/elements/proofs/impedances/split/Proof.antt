@@ -1,8 +1,8 @@
 -- `elements::impedances::split` computes its definition. Assumes nothing.
 use native.Mathlib.Omega.{arith}
 use borrow.Author.Needs.{needs}
-use Rattle.elements.specs.Sizes.{split-re-most, split-im-most}
-use Rattle.elements.specs.Rounded.{splitBy}
+use Rattle.elements.specs.laws.FactorSizes.{split-re-most, split-im-most}
+use Rattle.elements.specs.Doubles.{splitBy}
 use Rattle.elements.proofs.impedances.split.Statement.{statement}
 use Rattle.elements.proofs.impedances.split.Tie as tie
 

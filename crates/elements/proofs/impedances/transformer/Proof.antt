@@ -2,9 +2,9 @@
 use native.Mathlib.Omega.{arith}
 use borrow.Author.Needs.{needs}
 use borrow.Author.Tests.{le-leb, lt-leb}
-use Rattle.elements.specs.Factors.{ux-most}
-use Rattle.elements.specs.Sizes.{factorC-sized}
-use Rattle.elements.specs.Rounded.{transformerBy}
+use Rattle.elements.specs.laws.Factors.{ux-most}
+use Rattle.elements.specs.laws.FactorSizes.{factorC-sized}
+use Rattle.elements.specs.Doubles.{transformerBy}
 use Rattle.elements.proofs.impedances.transformer.Statement.{statement}
 use Rattle.elements.proofs.impedances.transformer.Tie as tie
 

@@ -1,6 +1,6 @@
 -- `elements::peaks::converter_peak` computes its definition. Assumes nothing.
 use borrow.Author.Needs.{needs}
-use Rattle.elements.specs.Currents.{converterPeakBy}
+use Rattle.elements.specs.Doubles.{converterPeakBy}
 use Rattle.elements.proofs.peaks.converter_peak.Statement.{statement}
 use Rattle.elements.proofs.peaks.converter_peak.Tie as tie
 

@@ -1,6 +1,6 @@
 -- `elements::peaks::current` computes its definition. Assumes nothing.
 use borrow.Author.Needs.{needs}
-use Rattle.elements.specs.Currents.{currentBy}
+use Rattle.elements.specs.Doubles.{currentBy}
 use Rattle.elements.proofs.peaks.current.Statement.{statement}
 use Rattle.elements.proofs.peaks.current.Tie as tie
 

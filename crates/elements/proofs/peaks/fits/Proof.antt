@@ -1,7 +1,7 @@
 -- `elements::peaks::fits` computes its definition. Assumes nothing.
 use borrow.Author.Needs.{needs}
 use borrow.Author.Tests.{lt-ltb, le-ltb}
-use Rattle.elements.specs.Place.{fitsAt}
+use Rattle.elements.specs.Doubles.{fitsAt}
 use Rattle.elements.proofs.peaks.fits.Statement.{statement}
 use Rattle.elements.proofs.peaks.fits.Tie as tie
 

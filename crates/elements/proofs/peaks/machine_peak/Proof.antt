@@ -1,6 +1,6 @@
 -- `elements::peaks::machine_peak` computes its definition. Assumes nothing.
 use borrow.Author.Needs.{needs}
-use Rattle.elements.specs.Currents.{machinePeakBy}
+use Rattle.elements.specs.Doubles.{machinePeakBy}
 use Rattle.elements.proofs.peaks.machine_peak.Statement.{statement}
 use Rattle.elements.proofs.peaks.machine_peak.Tie as tie
 

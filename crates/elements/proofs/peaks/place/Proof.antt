@@ -4,8 +4,8 @@ use mathlib.Core.Path.{refl, sym, _∙_}
 use native.Mathlib.Nat.{le-refl}
 use native.Mathlib.Omega.{arith}
 use borrow.Author.Needs.{needs}
-use Rattle.enclosure.specs.Climb.{Left, left-next, left-taken, left-passed, left-none}
-use Rattle.elements.specs.Place.{fitsAt, placeOf}
+use Rattle.enclosure.specs.laws.Climb.{Left, left-next, left-taken, left-passed, left-none}
+use Rattle.elements.specs.Doubles.{fitsAt, placeOf}
 use Rattle.elements.proofs.peaks.place.Statement.{statement}
 use Rattle.elements.proofs.peaks.place.Tie as tie
 

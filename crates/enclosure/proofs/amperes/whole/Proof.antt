@@ -2,8 +2,8 @@
 use mathlib.Core.Path.{ap}
 use native.Mathlib.Omega.{arith}
 use borrow.Author.Needs.{needs}
-use Rattle.enclosure.specs.Units.{ofNat}
-use Rattle.enclosure.specs.Whole.{castable}
+use Rattle.enclosure.specs.Exact.{ofNat}
+use Rattle.enclosure.specs.laws.WholeF64.{castable}
 use Rattle.enclosure.proofs.amperes.whole.Statement.{statement}
 use Rattle.enclosure.proofs.amperes.whole.Tie as tie
 

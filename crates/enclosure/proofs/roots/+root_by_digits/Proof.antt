@@ -5,7 +5,8 @@ use Prim.Native.Nat.{ℕ, _<_}
 use native.Mathlib.Omega.{arith}
 use borrow.Fn.Kinds.{In}
 use borrow.Fn.PlainCycle.{Measures, is, falls, and}
-use Rattle.enclosure.specs.Root.{rootOf, root-more, root-same, quarter-below, square-fits}
+use Rattle.enclosure.specs.Exact.{rootOf}
+use Rattle.enclosure.specs.laws.Root.{root-more, root-same, quarter-below, square-fits}
 use Rattle.enclosure.proofs.roots.root_by_digits.Reads as root
 use Rattle.enclosure.proofs.roots.root_by_digits.Kinds as root-kinds
 use Rattle.enclosure.proofs.roots.+root_by_digits.Lts-root_by_digits as root-lts

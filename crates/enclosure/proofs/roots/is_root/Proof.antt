@@ -5,7 +5,7 @@ use mathlib.Core.Bool.{true≢false}
 use native.Mathlib.Omega.{arith}
 use borrow.Author.Needs.{needs}
 use borrow.Author.Tests.{ltb-true}
-use Rattle.enclosure.specs.Root.{guess-fits, guess-root}
+use Rattle.enclosure.specs.laws.Root.{guess-fits, guess-root}
 use Rattle.enclosure.proofs.roots.is_root.Statement.{statement}
 use Rattle.enclosure.proofs.roots.is_root.Tie as tie
 

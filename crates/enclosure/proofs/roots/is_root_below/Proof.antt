@@ -7,7 +7,7 @@ use native.Mathlib.Omega.{arith}
 use lib.Dec.{le→leb}
 use lib.Ieee.{inFloat}
 use borrow.Author.Needs.{needs}
-use Rattle.enclosure.specs.Guess.{root-guessed}
+use Rattle.enclosure.specs.laws.RootGuess.{root-guessed}
 use Rattle.enclosure.proofs.roots.is_root_below.Statement.{statement}
 use Rattle.enclosure.proofs.roots.is_root_below.Tie as tie
 

@@ -8,7 +8,7 @@ use native.Mathlib.Omega.{arith}
 use lib.Dec.{le→leb}
 use lib.Ieee.{Float, le, inFloat}
 use Rattle.enclosure.specs.Doubles.{squared, rootBelow}
-use Rattle.enclosure.specs.Climb.{Left, left-next, left-taken, left-passed, left-none}
+use Rattle.enclosure.specs.laws.Climb.{Left, left-next, left-taken, left-passed, left-none}
 use Rattle.enclosure.proofs.roots.root_by_bits.Statement.{statement}
 use Rattle.enclosure.proofs.roots.root_by_bits.Tie as tie
 

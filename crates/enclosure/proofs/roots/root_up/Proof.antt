@@ -4,7 +4,8 @@ use mathlib.Core.Path.{ap, _∙_}
 use Prim.Native.Nat.{ℕ, _+_, _-_}
 use native.Mathlib.Omega.{arith}
 use borrow.Author.Needs.{needs}
-use Rattle.enclosure.specs.Root.{rootUp, root-below, root-up-more}
+use Rattle.enclosure.specs.Exact.{rootUp}
+use Rattle.enclosure.specs.laws.Root.{root-below, root-up-more}
 use Rattle.enclosure.proofs.roots.root_up.Statement.{statement}
 use Rattle.enclosure.proofs.roots.root_up.Tie as tie
 

@@ -1,12 +1,12 @@
--- `board_of` makes the board of Rounded: the equations of the functions that it calls, put together.
+-- `board_of` makes the board of Doubles: the equations of the functions that it calls, put together.
 use mathlib.Core.Path.{_≡_, ap}
 use Prim.Native.Nat.{min}
 use native.Mathlib.Omega.{arith}
 use lib.ListN.{length, take, length-take}
 use Rattle.network.specs.declared.columns.TreeColumns.{TreeColumns}
-use Rattle.network.specs.Network.{maxBuses}
+use Rattle.tree.specs.Limits.{maxBuses}
 use Rattle.network.proofs.Lists.{length-mapped}
-use Rattle.network.specs.Rounded.{boardOf}
+use Rattle.network.specs.Doubles.{boardOf}
 use borrow.Author.Needs.{needs}
 use Rattle.network.proofs.board.board_of.Statement.{statement}
 use Rattle.network.proofs.board.board_of.Tie as tie

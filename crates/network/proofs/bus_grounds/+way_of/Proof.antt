@@ -2,7 +2,7 @@
 -- the counts are at most the number, so that the sums fit.
 use mathlib.Core.Path.{sym}
 use Rattle.network.specs.Network.{busAt, anyBranch, ifTransformer}
-use Rattle.network.specs.Ways.{way-more, way-none, depth-small, transformers-small, if-transformer-small}
+use Rattle.network.specs.laws.Ways.{way-more, way-none, depth-small, transformers-small, if-transformer-small}
 use borrow.Author.Needs.{needs}
 use native.Mathlib.Omega.{arith}
 use Prim.Native.Nat.{ℕ, _<_}

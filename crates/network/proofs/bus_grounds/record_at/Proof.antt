@@ -2,7 +2,8 @@
 use mathlib.Core.Path.{_≡_, sym, _∙_}
 use lib.ListN.{length, List·getD-eq-default}
 use native.Mathlib.Omega.{arith}
-use Rattle.network.specs.Network.{maxBuses, blank}
+use Rattle.tree.specs.Limits.{maxBuses}
+use Rattle.network.specs.Network.{blank}
 use borrow.Author.Needs.{needs}
 use Rattle.network.proofs.bus_grounds.record_at.Statement.{statement}
 use Rattle.network.proofs.bus_grounds.record_at.Tie as tie

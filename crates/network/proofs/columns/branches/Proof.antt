@@ -5,10 +5,11 @@ use Prim.Native.Nat.{ℕ, _-_, _≤_, _<_}
 use lib.Ieee.{nan}
 use lib.ListN.{length, take, length-take}
 use Rattle.enclosure.specs.declared.Complex.{Complex}
-use Rattle.network.specs.declared.Bus.{Bus}
-use Rattle.network.specs.Network.{maxBuses, busAt, blank}
-use Rattle.network.specs.Rounded.{branchBy, treeOf, branchPoints}
-use Rattle.network.specs.Bridge.{number-all}
+use Rattle.network.specs.declared.study.Bus.{Bus}
+use Rattle.tree.specs.Limits.{maxBuses}
+use Rattle.network.specs.Network.{busAt, blank}
+use Rattle.network.specs.Doubles.{branchBy, treeOf, branchPoints}
+use Rattle.network.specs.laws.Bridge.{number-all}
 use Rattle.network.proofs.Filling.{Filled, filled-none, filled-more, filled-column}
 use Rattle.network.proofs.Lists.{length-mapped, read-counted, count-most}
 use native.Mathlib.Omega.{arith}

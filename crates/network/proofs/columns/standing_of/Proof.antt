@@ -9,13 +9,14 @@ use lib.ListN.{length, take, length-take}
 use borrow.Author.Tests.{ltb-true, lt-ltb, le-ltb}
 use Rattle.enclosure.specs.declared.Complex.{Complex}
 use Rattle.enclosure.specs.Doubles.{added}
-use Rattle.sweep.specs.Columns.{numberAt}
-use Rattle.network.specs.declared.Source.{Source}
-use Rattle.network.specs.Booleans.{both-true}
-use Rattle.network.specs.Network.{maxBuses, maxSources, sourceAt, blankSource}
+use Rattle.sweep.specs.Points.{numberAt}
+use Rattle.network.specs.declared.study.Source.{Source}
+use Rattle.network.specs.laws.Tests.{both-true}
+use Rattle.tree.specs.Limits.{maxBuses, maxSources}
+use Rattle.network.specs.Network.{sourceAt, blankSource}
 use Rattle.network.specs.SourceKinds.{isMachine, isConverter}
 use Rattle.network.specs.RoundedSourceKinds.{admittanceBy, suppliedBy}
-use Rattle.network.specs.Rounded.{standingOf}
+use Rattle.network.specs.Doubles.{standingOf}
 use Rattle.network.proofs.Filling.{Stands, stands-none, stands-more, stands-passed, stands-column}
 use Rattle.network.proofs.Lists.{length-mapped, read-counted}
 use native.Mathlib.Omega.{arith}

@@ -2,10 +2,11 @@
 use mathlib.Core.Path.{_≡_, refl, _∙_, ap}
 use Prim.Native.Nat.{ℕ, _-_, _≤_, _<_}
 use lib.ListN.{length, take, length-take}
-use Rattle.network.specs.declared.Bus.{Bus}
-use Rattle.network.specs.Network.{maxBuses, blank}
+use Rattle.network.specs.declared.study.Bus.{Bus}
+use Rattle.tree.specs.Limits.{maxBuses}
+use Rattle.network.specs.Network.{blank}
 use Rattle.network.specs.Grid.{aboveOf, belowOf}
-use Rattle.network.specs.Rounded.{treeOf}
+use Rattle.network.specs.Doubles.{treeOf}
 use Rattle.network.proofs.Filling.{Filled, filled-none, filled-more, filled-column}
 use Rattle.network.proofs.Lists.{length-mapped, read-counted}
 use native.Mathlib.Omega.{arith}

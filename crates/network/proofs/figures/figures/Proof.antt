@@ -1,3 +1,4 @@
+-- `figures` meets its contract: no bound is above 2 ^ 53, so that each is its number as f64.
 use mathlib.Core.Path.{_≡_, ap, _∙_}
 use Rattle.enclosure.specs.declared.Bounds.{Bounds}
 use Rattle.enclosure.specs.Doubles.{boundsOf}

@@ -1,5 +1,6 @@
+-- `branch_impedance` meets its contract, by the branch kind.
 use borrow.Author.Tests.{ne-eqb}
-use Rattle.network.specs.Rounded.{branchBy}
+use Rattle.network.specs.Doubles.{branchBy}
 use borrow.Author.Needs.{needs}
 use Rattle.network.proofs.records.branch_impedance.Statement.{statement}
 use Rattle.network.proofs.records.branch_impedance.Tie as tie

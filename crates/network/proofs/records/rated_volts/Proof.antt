@@ -1,3 +1,4 @@
+-- `rated_volts` meets its contract, by the branch kind.
 use borrow.Author.Tests.{ne-eqb}
 use Rattle.network.proofs.records.rated_volts.Statement.{statement}
 use Rattle.network.proofs.records.rated_volts.Tie as tie

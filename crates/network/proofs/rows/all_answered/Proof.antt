@@ -7,13 +7,14 @@ use Rattle.enclosure.specs.declared.Complex.{Complex}
 use Rattle.enclosure.specs.Doubles.{doubles}
 use Rattle.tree.specs.Grid.{Grid}
 use Rattle.tree.specs.Converters.{fromRoot}
-use Rattle.sweep.specs.Columns.{points, columnGrid}
+use Rattle.sweep.specs.Points.{points, columnGrid}
 use Rattle.sweep.specs.Sweep.{seenOf}
-use Rattle.network.specs.declared.Bus.{Bus}
-use Rattle.network.specs.declared.Found.{Found}
-use Rattle.network.specs.Network.{maxBuses, busAt, blank}
+use Rattle.network.specs.declared.study.Bus.{Bus}
+use Rattle.network.specs.declared.query.Found.{Found}
+use Rattle.tree.specs.Limits.{maxBuses}
+use Rattle.network.specs.Network.{busAt, blank}
 use Rattle.network.specs.QueryAll.{answerBy, rowsBy}
-use Rattle.network.specs.QueryAllLaw.{refused-whole}
+use Rattle.network.specs.laws.QueryAll.{refused-whole}
 use Rattle.network.proofs.Filling.{Answered, answered-none, answered-more, answered-all}
 use Rattle.network.proofs.Lists.{length-mapped, read-counted}
 use native.Mathlib.Omega.{arith}

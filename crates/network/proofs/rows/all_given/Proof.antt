@@ -4,9 +4,9 @@ use lib.ListN.{length}
 use borrow.Author.Tests.{not-true, not-false}
 use Rattle.sweep.specs.Sweep.{seenOf}
 use Rattle.network.specs.Network.{network}
-use Rattle.network.specs.Rounded.{boardOf, seenAt, carriedAt}
+use Rattle.network.specs.Doubles.{boardOf, seenAt, carriedAt}
 use Rattle.network.specs.QueryAll.{rowsBy}
-use Rattle.network.specs.QueryAllLaw.{refused-whole, rows-open, rows-closed}
+use Rattle.network.specs.laws.QueryAll.{refused-whole, rows-open, rows-closed}
 use borrow.Author.Needs.{needs}
 use Rattle.network.proofs.rows.all_given.Statement.{statement}
 use Rattle.network.proofs.rows.all_given.Tie as tie

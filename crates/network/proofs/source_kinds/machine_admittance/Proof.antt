@@ -1,3 +1,4 @@
+-- `machine_admittance` meets its contract, by the source kind.
 use borrow.Author.Tests.{ne-eqb}
 use Rattle.network.specs.RoundedSourceKinds.{admittanceBy}
 use borrow.Author.Needs.{needs}

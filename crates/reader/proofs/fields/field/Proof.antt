@@ -1,3 +1,4 @@
+-- `field` meets its contract: the bytes from the place to the end of the field are its stretch.
 use mathlib.Core.Path.{_≡_}
 use Prim.Native.Nat.{_-_}
 use native.Mathlib.Omega.{arith}

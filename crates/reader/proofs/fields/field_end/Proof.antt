@@ -1,10 +1,12 @@
+-- `field_end` meets its contract. The invariant: no comma so far.
 use mathlib.Core.Path.{_≡_, refl, _∙_}
 use Prim.Native.Nat.{_+_, _-_, _≤_}
 use native.Mathlib.Omega.{arith}
 use borrow.Author.Needs.{needs}
 use borrow.Author.Tests.{eq-eqb, ne-eqb}
 use lib.ListN.{length, drop}
-use Rattle.reader.specs.Stretches.{atComma, before, before-none, before-more, before-end}
+use Rattle.reader.specs.Stretches.{atComma, before}
+use Rattle.reader.specs.laws.Stretches.{before-none, before-more, before-end}
 use Rattle.reader.proofs.Bytes.{comma-here}
 use Rattle.reader.proofs.fields.field_end.Statement.{statement}
 use Rattle.reader.proofs.fields.field_end.Tie as tie

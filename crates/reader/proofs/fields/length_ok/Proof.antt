@@ -1,3 +1,4 @@
+-- `length_ok` meets its contract, by the length of the field.
 use Prim.Native.Nat.{_≤_}
 use native.Mathlib.Omega.{arith}
 use borrow.Author.Tests.{le-leb, lt-leb, ne-eqb}

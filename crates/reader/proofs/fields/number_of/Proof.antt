@@ -1,3 +1,4 @@
+-- `number_of` meets its contract, by whether the length is allowed.
 use mathlib.Core.Path.{sym, _∙_}
 use borrow.Author.Needs.{needs}
 use Rattle.reader.specs.File.{numberOf}

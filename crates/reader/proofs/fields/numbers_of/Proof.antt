@@ -1,3 +1,4 @@
+-- `numbers_of` meets its contract. The invariant: what is gathered so far, with the fields that follow, is what all of them give.
 use mathlib.Core.Path.{sym, _∙_}
 use Prim.Native.Nat.{_+_, _-_}
 use native.Mathlib.Omega.{arith}

@@ -1,15 +1,16 @@
+-- `value` meets its contract. The invariant: the digits so far make the number.
 use mathlib.Core.Path.{_≡_, refl, sym, _∙_}
 use Prim.Native.Nat.{_+_, _*_, _-_, _^_, _≤_, _<_}
 use native.Mathlib.Omega.{arith}
 use borrow.Author.Needs.{needs}
 use lib.ListN.{length, drop, drop-of-length-le}
-use Rattle.reader.specs.File.{digits, decimal}
+use Rattle.reader.specs.File.{digits, digitsValue}
 use Rattle.reader.proofs.Bytes.{digits-low, digits-high, digits-more, decimal-more, decimal-least, value-other, value-large, value-small}
 use Rattle.reader.proofs.fields.value.Statement.{statement}
 use Rattle.reader.proofs.fields.value.Tie as tie
 
 abbrev Inv-loop : tie.InvT-loop
-Inv-loop field n₀ i₀ n i = (i ≤ length field) × (n < 2 ^ 32) × (digits field ≡ digits (drop i field)) × (decimal 0 field ≡ decimal n (drop i field))
+Inv-loop field n₀ i₀ n i = (i ≤ length field) × (n < 2 ^ 32) × (digits field ≡ digits (drop i field)) × (digitsValue 0 field ≡ digitsValue n (drop i field))
 
 abbrev μ-loop : tie.MeasureT-loop
 μ-loop field n₀ i₀ n i = length field - i
@@ -47,7 +48,7 @@ returns-3 c =
     let f = c .before .before .before .before .before .before .before .before .args .field .now in
     let w = c .before .wide in
     let least = decimal-least (10 * l .n + w .result) (drop (l .i + 1) f) in
-    let whole : decimal 0 f ≡ decimal (10 * l .n + w .result) (drop (l .i + 1) f) =
+    let whole : digitsValue 0 f ≡ digitsValue (10 * l .n + w .result) (drop (l .i + 1) f) =
     rw (w .ensures) (l .inv .3 ∙ decimal-more f (l .i) (c .before .before .before .before .before .loop-test .taken) (l .n))
     in
     sym (value-large f (omega (arith, c .if3 .taken, least, whole)))

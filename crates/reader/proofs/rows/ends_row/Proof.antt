@@ -1,3 +1,4 @@
+-- `ends_row` meets its contract, by whether two bytes are left.
 use mathlib.Core.Path.{sym}
 use borrow.Author.Needs.{needs}
 use Rattle.reader.proofs.Bytes.{crlf-last, crlf-next}

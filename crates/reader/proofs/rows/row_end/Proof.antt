@@ -1,9 +1,11 @@
+-- `row_end` meets its contract. The invariant: no CRLF so far.
 use mathlib.Core.Path.{_≡_, refl, sym, _∙_}
 use Prim.Native.Nat.{_+_, _-_, _≤_}
 use native.Mathlib.Omega.{arith}
 use borrow.Author.Needs.{needs}
 use lib.ListN.{length, drop}
-use Rattle.reader.specs.Stretches.{atCrlf, before, before-none, before-more, before-end}
+use Rattle.reader.specs.Stretches.{atCrlf, before}
+use Rattle.reader.specs.laws.Stretches.{before-none, before-more, before-end}
 use Rattle.reader.proofs.rows.row_end.Statement.{statement}
 use Rattle.reader.proofs.rows.row_end.Tie as tie
 

@@ -1,10 +1,11 @@
+-- `row_of` meets its contract: the letter, the comma, and the numbers after them.
 use mathlib.Core.Path.{sym, _∙_}
 use Prim.Native.Nat.{_-_}
 use native.Mathlib.Omega.{arith}
 use borrow.Author.Needs.{needs}
 use lib.ListN.{length, drop, length-drop}
 use lib.Seq.{take-all}
-use Rattle.reader.specs.Gathered.{Gathered, gathered-law}
+use Rattle.reader.specs.laws.Gathered.{Gathered, gathered-law}
 use Rattle.reader.specs.File.{fields}
 use Rattle.reader.proofs.Records.{fields-taken, fields-broken, row-short, row-other, row-fields}
 use Rattle.reader.proofs.rows.row_of.Statement.{statement}

@@ -1,5 +1,6 @@
+-- `number_at` meets its contract, at a place of the array and past its end.
 use borrow.Author.Tests.{lt-ltb, le-ltb}
-use Rattle.sweep.specs.Columns.{maxBuses}
+use Rattle.tree.specs.Limits.{maxBuses}
 use borrow.Author.Needs.{needs}
 use Rattle.sweep.proofs.columns.number_at.Statement.{statement}
 use Rattle.sweep.proofs.columns.number_at.Tie as tie

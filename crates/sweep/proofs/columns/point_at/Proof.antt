@@ -1,5 +1,6 @@
+-- `point_at` meets its contract, at a place of the arrays and past their end.
 use borrow.Author.Tests.{lt-ltb, le-ltb}
-use Rattle.sweep.specs.Columns.{maxBuses}
+use Rattle.tree.specs.Limits.{maxBuses}
 use borrow.Author.Needs.{needs}
 use Rattle.sweep.proofs.columns.point_at.Statement.{statement}
 use Rattle.sweep.proofs.columns.point_at.Tie as tie

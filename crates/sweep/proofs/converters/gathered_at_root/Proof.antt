@@ -1,9 +1,11 @@
+-- `gathered_at_root` meets its contract. The invariant: the currents of the buses so far, each carried to bus 0.
 use mathlib.Core.Path.{_≡_, sym, ap, ap₂, _∙_}
 use Prim.Native.Nat.{_-_, _≤_}
 use native.Mathlib.Omega.{arith}
 use Rattle.enclosure.specs.Doubles.{added, doubles}
-use Rattle.tree.specs.Converters.{gathered, toRoot, gathered-more}
-use Rattle.sweep.specs.Columns.{pointAt, columnGrid}
+use Rattle.tree.specs.Converters.{gathered, toRoot}
+use Rattle.tree.specs.laws.Converters.{gathered-more}
+use Rattle.sweep.specs.Points.{pointAt, columnGrid}
 use borrow.Author.Needs.{needs}
 use Rattle.sweep.proofs.converters.gathered_at_root.Statement.{statement}
 use Rattle.sweep.proofs.converters.gathered_at_root.Tie as tie

@@ -3,7 +3,7 @@ use mathlib.Core.Path.{_≡_, sym, _∙_}
 use mathlib.Core.Bool.{true, false}
 use borrow.Author.Tests.{le-ltb, lt-ltb}
 use Rattle.enclosure.specs.Doubles.{empty, doubles}
-use Rattle.tree.specs.Grid.{through-nothing, through-parent, through-child}
+use Rattle.tree.specs.laws.Grid.{through-nothing, through-parent, through-child}
 use borrow.Author.Needs.{needs}
 use Rattle.sweep.proofs.sweeps.seen_through.Statement.{statement}
 use Rattle.sweep.proofs.sweeps.seen_through.Tie as tie

@@ -2,7 +2,7 @@
 use mathlib.Core.Path.{_≡_, refl}
 use Prim.Native.Nat.{_-_, _≤_}
 use Rattle.sweep.specs.declared.sweeps.Falls.{Falls}
-use Rattle.sweep.specs.Columns.{pointAt, points, columnGrid}
+use Rattle.sweep.specs.Points.{pointAt, points, columnGrid}
 use Rattle.sweep.specs.Sweep.{fallTo, fallsOf}
 use Rattle.sweep.specs.laws.Steps.{down-taken, down-passed}
 use native.Mathlib.Omega.{arith}

@@ -4,7 +4,8 @@ use Prim.Native.Nat.{_≤_, min}
 use native.Mathlib.Omega.{arith}
 use borrow.Author.Needs.{needs}
 use Rattle.sweep.specs.declared.sweeps.Rises.{Rises}
-use Rattle.sweep.specs.Columns.{maxBuses, pointAt, points, noPoints, columnGrid}
+use Rattle.tree.specs.Limits.{maxBuses}
+use Rattle.sweep.specs.Points.{pointAt, points, noPoints, columnGrid}
 use Rattle.sweep.specs.Sweep.{upFrom, risesOf}
 use Rattle.sweep.specs.laws.Steps.{up-handed, up-passed}
 use Rattle.sweep.proofs.sweeps.sweep_up.Statement.{statement}

@@ -3,8 +3,8 @@ use mathlib.Core.Path.{_≡_, refl, sym, _∙_, ap}
 use native.Mathlib.Omega.{arith}
 use borrow.Author.Needs.{needs}
 use Rattle.enclosure.specs.Doubles.{added}
-use Rattle.tree.specs.Walk.{over}
-use Rattle.sweep.specs.Columns.{numberAt, pointAt}
+use Rattle.tree.specs.Grid.{sumOver}
+use Rattle.sweep.specs.Points.{numberAt, pointAt}
 use Rattle.sweep.specs.Sweep.{childOf, withChildren}
 use Rattle.sweep.specs.laws.Steps.{over-added, over-passed, over-past}
 use Rattle.sweep.proofs.sweeps.with_children.Statement.{statement}
@@ -13,7 +13,7 @@ use Rattle.sweep.proofs.sweeps.with_children.Tie as tie
 -- what is still to be added makes the whole
 abbrev Inv-loop : tie.InvT-loop
 Inv-loop parents rise-re rise-im b top total₀ i₀ total i =
-    over added (childOf (numberAt parents) b) (pointAt rise-re rise-im) total i ≡ over added (childOf (numberAt parents) b) (pointAt rise-re rise-im) total₀ top
+    sumOver added (childOf (numberAt parents) b) (pointAt rise-re rise-im) total i ≡ sumOver added (childOf (numberAt parents) b) (pointAt rise-re rise-im) total₀ top
 
 abbrev μ-loop : tie.MeasureT-loop
 μ-loop parents rise-re rise-im b top total₀ i₀ total i = i

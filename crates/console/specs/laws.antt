@@ -1,0 +1,4 @@
+pub mod Answers
+pub mod AnswersLaw
+pub mod Lines
+pub mod EffectsLaw

@@ -1,0 +1,126 @@
+-- Laws of effects: which of its cases the effect of a line is. Assumes nothing.
+use Prim.Native.Nat.{ℕ, _/_, _≤_, _<_}
+use mathlib.Core.Path.{_≡_, refl, sym, _∙_, ap}
+use mathlib.Core.Bool.{Bool, true, false, cond, _&&_}
+use mathlib.Core.List.{List}
+use native.Mathlib.Omega.{arith}
+use lib.Dec.{leb}
+use lib.ListN.{length, take, getD, replicate}
+use borrow.Author.Tests.{leb-true, le-leb, lt-leb, lt-ltb, le-ltb}
+use Rattle.network.specs.laws.Tests.{by-test, both-true}
+use Rattle.network.specs.Network.{Network}
+use Rattle.network.specs.Query.{queryNumber, amperesGiven, verdictGiven, foundGiven}
+use Rattle.network.specs.declared.query.Found.{Found}
+use Rattle.reader.specs.declared.Numbers.{Numbers}
+use Rattle.reader.specs.File.{Outcome, readOf}
+use Rattle.writer.specs.Writing.{writeNumber, writeLength, afterWrite}
+use Rattle.console.specs.declared.hex.Decoded.{Decoded}
+use Rattle.console.specs.declared.hex.Decoded.the-variants.{Bytes, Broken}
+use Rattle.console.specs.declared.turns.Reason.{Reason}
+use Rattle.console.specs.declared.turns.Reason.the-variants.{Hex, Room, Unknown, Long}
+use Rattle.console.specs.Answers.{readingLine, writtenLine, filler}
+use Rattle.console.specs.Lines.{beginsWith, isWord, hexPairs, hexBytes, decodedOf}
+use Rattle.console.specs.Effects.{Effect, wrong, counted, reasonOf, numbered, startEffect, busEffect, sourceEffect, closeEffect, queryEffect, readBy, readEffect, writeInto, writeBy, writeEffect, startWord, busWord, sourceWord, closeWord, queryWord, readWord, writeWord, behind, callEffect, lineEffect}
+
+-- ---- so many numbers, or not; v are those that the code has
+module _ (wanted : ℕ) (call : List ℕ → Effect) (n : Network) (v w : Numbers) (e : v ≡ w) (t : Bool) (h : t ≡ counted v wanted) where
+  pub numbers-taken : t ≡ true → call (v .values) ≡ numbered wanted call n w
+  unfolding numbered
+  numbers-taken k = let y : counted v wanted ≡ true = sym h ∙ k in rw (← e, y)
+
+  pub numbers-wrong : t ≡ false → (reason : Reason) → reason ≡ reasonOf v → wrong reason n ≡ numbered wanted call n w
+  unfolding numbered
+  numbers-wrong k reason r = let y : counted v wanted ≡ false = sym h ∙ k in rw (← e, y, r)
+
+-- ---- a query
+pub found-given : (f : Found) (n : Network) (b : ℕ) → f .number ≡ queryNumber n b → f .amperes ≡ amperesGiven n b → f .verdict ≡ verdictGiven n b → f ≡ foundGiven n b
+unfolding foundGiven
+found-given f n b p q v = rw (← p, ← q, ← v)
+
+-- ---- digits: broken, or bytes that are read
+module _ (n : Network) (digits : List ℕ) where
+  pub read-broken : decodedOf digits ≡ Broken → wrong Hex n ≡ readEffect n digits
+  unfolding decodedOf readEffect
+  read-broken e =
+      by-test (hexPairs digits && leb (length digits) 140000)
+      (λ t. absurd (let b : Bytes (length digits / 2) ≡ Broken = rw t at e in let z : _≡_ {A = ℕ} 0 1 = cc in omega arith))
+      (λ t. rw t)
+
+  pub read-bytes : (k : ℕ) (text : List ℕ) → decodedOf digits ≡ Bytes k
+      → (hexPairs digits ≡ true → length digits ≤ 140000 → take (length digits / 2) text ≡ hexBytes digits)
+      → readBy (readOf (take k text)) ≡ readEffect n digits
+  unfolding decodedOf readEffect
+  read-bytes k text e h =
+      by-test (hexPairs digits && leb (length digits) 140000)
+      (λ t.
+      let p = both-true (hexPairs digits) (leb (length digits) 140000) t in
+      let b : Bytes (length digits / 2) ≡ Bytes k = rw t at e in
+      let s : length digits / 2 ≡ k = cc in
+      rw t (ap (λ (l : List ℕ). readBy (readOf l)) (ap (λ (j : ℕ). take j text) (sym s) ∙ h (p .0) (leb-true (length digits) 140000 (p .1)))))
+      (λ t. absurd (let b : Broken ≡ Bytes k = rw t at e in let z : _≡_ {A = ℕ} 0 1 = cc in omega arith))
+
+-- what reading gives, by its parts
+pub read-parts : (o : Outcome) (number row : ℕ) (n : Network) → number ≡ o .number → row ≡ o .row → n ≡ o .network → record { answer = readingLine number row; network = n } ≡ readBy o
+read-parts o number row n p q r = rw (p, q, r)
+
+-- ---- a writing: its parts, and the room that is lent
+module _ (n : Network) where
+  pub write-parts : (room number size : ℕ) (lent : List ℕ) → number ≡ writeNumber n room → size ≡ writeLength n room → lent ≡ afterWrite n (replicate room filler)
+      → record { answer = writtenLine number size lent; network = n } ≡ writeInto n room
+  unfolding writeInto
+  write-parts room number size lent p q r = rw (p, q, r)
+
+  pub room-lent : (v : List ℕ) → getD v 0 0 ≤ 70000 → writeInto n (getD v 0 0) ≡ writeBy n v
+  room-lent v h = rw (le-leb (getD v 0 0) 70000 h)
+
+  pub room-refused : (v : List ℕ) → 70000 < getD v 0 0 → wrong Room n ≡ writeBy n v
+  room-refused v h = rw (lt-leb (getD v 0 0) 70000 h)
+
+-- ---- the word that a line begins with: none of those before it, and this one
+module _ (n : Network) (line : List ℕ) where
+  pub call-start : beginsWith startWord line ≡ true → startEffect n (behind startWord line) ≡ callEffect n line
+  unfolding callEffect
+  call-start e = rw e
+
+  module _ (a : beginsWith startWord line ≡ false) where
+    pub call-bus : beginsWith busWord line ≡ true → busEffect n (behind busWord line) ≡ callEffect n line
+    unfolding callEffect
+    call-bus e = rw (a, e)
+
+    module _ (b : beginsWith busWord line ≡ false) where
+      pub call-source : beginsWith sourceWord line ≡ true → sourceEffect n (behind sourceWord line) ≡ callEffect n line
+      unfolding callEffect
+      call-source e = rw (a, b, e)
+
+      module _ (d : beginsWith sourceWord line ≡ false) where
+        pub call-close : isWord closeWord line ≡ true → closeEffect n ≡ callEffect n line
+        unfolding callEffect
+        call-close e = rw (a, b, d, e)
+
+        module _ (f : isWord closeWord line ≡ false) where
+          pub call-query : beginsWith queryWord line ≡ true → queryEffect n (behind queryWord line) ≡ callEffect n line
+          unfolding callEffect
+          call-query e = rw (a, b, d, f, e)
+
+          module _ (g : beginsWith queryWord line ≡ false) where
+            pub call-read : beginsWith readWord line ≡ true → readEffect n (behind readWord line) ≡ callEffect n line
+            unfolding callEffect
+            call-read e = rw (a, b, d, f, g, e)
+
+            module _ (h : beginsWith readWord line ≡ false) where
+              pub call-write : beginsWith writeWord line ≡ true → writeEffect n (behind writeWord line) ≡ callEffect n line
+              unfolding callEffect
+              call-write e = rw (a, b, d, f, g, h, e)
+
+              pub call-unknown : beginsWith writeWord line ≡ false → wrong Unknown n ≡ callEffect n line
+              unfolding callEffect
+              call-unknown e = rw (a, b, d, f, g, h, e)
+
+  -- ---- the length of a line
+  pub line-long : 140000 < length line → wrong Long n ≡ lineEffect n line
+  unfolding lineEffect
+  line-long h = rw (lt-ltb 140000 (length line) h)
+
+  pub line-call : length line ≤ 140000 → callEffect n line ≡ lineEffect n line
+  unfolding lineEffect
+  line-call h = rw (le-ltb 140000 (length line) h)

@@ -1,0 +1,11 @@
+pub mod Factors
+pub mod Exponential
+pub mod EachBelow
+pub mod PeakTable
+pub mod FineTable
+pub mod Peak
+pub mod FactorSizes
+pub mod ImpedanceErrors
+pub mod Place
+pub mod BoundsAndPeaks
+pub mod Worked

@@ -1,0 +1,35 @@
+-- How large the factors can be. Assumes nothing.
+use Prim.Native.Nat.{ℕ, _+_, _*_, _≤_, _<_}
+use mathlib.Core.Path.{refl}
+use mathlib.Core.Bool.{Bool, true, false, cond}
+use mathlib.Core.List.{[], _∷_}
+use native.Mathlib.Omega.{arith}
+use native.Mathlib.Nat.{mul-le-mul}
+use lib.Dec.{leb, eqb, lit≤}
+use Rattle.algebra.specs.Reading.{from, read}
+use Rattle.enclosure.specs.laws.Root.{root-le}
+use Rattle.elements.specs.Factors.{factorC, sineOf, splitOf}
+use Rattle.elements.specs.laws.Factors.{sine-most, split-fits, split-most}
+
+-- R and X of an impedance of 10⁸ are at most 10⁸ each
+pub split-re-most : (ρ : ℕ) → splitOf ρ * ρ ≤ 100000000
+split-re-most ρ = root-le (splitOf ρ * ρ) 100000000 (go (splitOf ρ) (split-fits ρ))
+  where
+    go : (f : ℕ) → f * f * (10000 + ρ * ρ) ≤ 10000000000000000 → f * ρ * (f * ρ) ≤ 100000000 * 100000000
+    go f h = from (f ∷ ρ ∷ []) h (search read depth 40 fits 20000) refl
+
+pub split-im-most : (ρ : ℕ) → splitOf ρ * 100 ≤ 100000000
+split-im-most ρ = omega (arith, split-most ρ)
+
+pub factorC-sized : (tolerance volts : ℕ) → (100 < factorC tolerance volts) × (factorC tolerance volts ≤ 110)
+unfolding factorC
+factorC-sized tolerance volts = go (leb volts 1000) (eqb tolerance 6)
+  where
+    go : (s t : Bool) → (100 < cond s (cond t 105 110) 110) × (cond s (cond t 105 110) 110 ≤ 110)
+    go true true = (lit≤ tt, lit≤ tt)
+    go true false = (lit≤ tt, lit≤ tt)
+    go false t = (lit≤ tt, lit≤ tt)
+
+-- xd·sin, in 10⁹
+pub saturation-most : (xd p : ℕ) → xd ≤ 100000 → xd * sineOf p ≤ 1000000000
+saturation-most xd p h = mul-le-mul h (sine-most p)

@@ -1,0 +1,141 @@
+-- Each calculated impedance is within a few parts in 2 ^ 53 of the exact one, by the rules of the enclosing arithmetic.
+-- Assumes nothing.
+use Prim.Native.Nat.{ℕ, _+_, _*_, _^_, _≤_, _<_}
+use mathlib.Core.Path.{_≡_, refl}
+use mathlib.Core.List.{[], _∷_}
+use native.Mathlib.Omega.{arith}
+use native.Mathlib.Nat.{mul-le-mul, mul-pos}
+use borrow.Author.Tests.{le-leb}
+use Rattle.algebra.specs.Reading.{identity, read}
+use Rattle.enclosure.specs.Exact.{Point, times, inverse}
+use Rattle.enclosure.specs.laws.Nearness.{NearTo, Same, near-same}
+use Rattle.enclosure.specs.declared.Complex.{Complex}
+use Rattle.enclosure.specs.laws.StepErrors.{parts}
+use Rattle.enclosure.specs.Doubles.{wholePoint, scaled, inverted}
+use Rattle.enclosure.specs.laws.F64Errors.{value}
+use Rattle.enclosure.specs.laws.F64Range.{Good, Factor, f64-rules}
+use Rattle.enclosure.specs.laws.ElementStart.{whole-near}
+use Rattle.elements.specs.Factors.{factorC, sineOf, uxOf, splitOf}
+use Rattle.elements.specs.laws.Factors.{ux-most}
+use Rattle.elements.specs.laws.FactorSizes.{split-re-most, split-im-most, factorC-sized, saturation-most}
+use Rattle.elements.specs.Impedance.{line, transformer, split, feeder, motor, generator, converter}
+use Rattle.elements.specs.Doubles.{lineBy, transformerBy, splitBy, feederBy, motorBy, generatorBy, converterBy}
+
+-- z is within k parts in 2 ^ 53 of the exact x, and of a size that calculation can go on from
+abbrev pub Calculated : ℕ → Point → Complex → Type 0
+Calculated = NearTo value (Good 200 0) parts
+
+-- a pair of whole numbers, and ratios one after the other
+start : (a b : ℕ) → a < 2 ^ 32 → b < 2 ^ 32 → Calculated 0 (record { re = a; im = b; den = 1 }) (wholePoint a b)
+start = whole-near
+
+by : (k p q : ℕ) (x : Point) (z : Complex) → k ≤ 50 → Factor p → Factor q → Calculated k x z → Calculated (k + 8) (times p q x) (scaled p q z)
+by k p q x z l hp hq h = f64-rules 0 (omega arith) .near-scale k p q x z hp hq l h
+
+-- the same point in another form
+equal : (k : ℕ) (x y : Point) (z : Complex) → 0 < y .den → Same x y → Calculated k x z → Calculated k y z
+equal k x y z d s h = (near-same parts k x y (value z) d s (h .0), h .1)
+
+-- THE ADMITTANCE of a machine, from its impedance
+pub admittance-near : (k : ℕ) (x : Point) (z : Complex) → k ≤ 50 → Calculated k x z → Calculated (k + 13) (inverse x) (inverted z)
+admittance-near k x z l h = f64-rules 0 (omega arith) .near-inverse k x z l h
+
+pub line-near : (r x metres circuits : ℕ) → r < 2 ^ 32 → x < 2 ^ 32 → Factor metres → Factor circuits → Calculated 16 (line r x metres circuits) (lineBy r x metres circuits)
+unfolding line lineBy
+line-near r x metres circuits hr hx hm hc =
+    equal 16 (times 1 1000000 (times metres circuits (record { re = r; im = x; den = 1 }))) (times metres (circuits * 1000000) (record { re = r; im = x; den = 1 })) _
+    (mul-pos (omega arith) (mul-pos (hc .0) (omega arith)))
+    (record { re = same r; im = same x })
+    (by 8 1 1000000 _ _ (omega arith) (omega arith, omega arith) (omega arith, omega arith) (by 0 metres circuits _ _ (omega arith) hm hc (start r x hr hx)))
+  where
+    same : (a : ℕ) → a * metres * 1 * (1 * (circuits * 1000000)) ≡ a * metres * (1 * circuits * 1000000)
+    same a = identity (a ∷ metres ∷ circuits ∷ []) (search read depth 40 fits 20000) refl
+
+pub converter-near : (tenths k : ℕ) → tenths < 2 ^ 32 → Factor k → Calculated 8 (converter tenths k) (converterBy tenths k)
+unfolding converter converterBy
+converter-near tenths k ht hk =
+    equal 8 (times k 1000 (record { re = tenths; im = 0; den = 1 })) (record { re = tenths * k; im = 0; den = 1000 }) _ (omega arith)
+    (record { re = omega arith; im = omega arith })
+    (by 0 k 1000 _ _ (omega arith) hk (omega arith, omega arith) (start tenths 0 ht (omega arith)))
+
+-- K_T's numerator and denominator
+correction : (tolerance volts uk uR : ℕ) → uk ≤ 30000 → Factor (9500 * factorC tolerance volts) × Factor (1000000 + 6 * uxOf uk uR)
+correction tolerance volts uk uR h =
+    let c = factorC-sized tolerance volts in
+    let u = ux-most uk uR in
+    ((omega (arith, c .0), omega (arith, c .1)), (omega arith, omega arith))
+
+pub transformer-near : (tolerance lower own kVA uk uR : ℕ) → uk ≤ 30000 → uR < 2 ^ 32 → Factor own → Factor kVA
+    → Calculated 24 (transformer tolerance lower own kVA uk uR) (transformerBy tolerance lower own kVA uk uR)
+unfolding transformer transformerBy
+transformer-near tolerance lower own kVA uk uR hk hr ho hv =
+    rw (le-leb uk 30000 hk)
+    (go (factorC tolerance lower) (uxOf uk uR) (correction tolerance lower uk uR hk) (omega (arith, ux-most uk uR)))
+  where
+    same : (a c x : ℕ) → a * own * own * (9500 * c) * (100000 * (1000 * kVA) * (1000000 + 6 * x)) ≡ a * (own * own) * (9500 * c) * (1 * kVA * 100000000 * (1000000 + 6 * x))
+    same a c x = identity (a ∷ own ∷ c ∷ kVA ∷ x ∷ []) (search read depth 40 fits 20000) refl
+
+    go : (c x : ℕ) → Factor (9500 * c) × Factor (1000000 + 6 * x) → x < 2 ^ 32
+        → Calculated 24 (times (9500 * c) (1000000 + 6 * x) (times (own * own) (1000 * kVA) (record { re = uR; im = x; den = 100000 })))
+        (scaled (9500 * c) (1000000 + 6 * x) (scaled own 100000000 (scaled own kVA (wholePoint uR x))))
+    go c x v l =
+        equal 24 (times (9500 * c) (1000000 + 6 * x) (times own 100000000 (times own kVA (record { re = uR; im = x; den = 1 })))) _ _
+        (mul-pos (mul-pos (omega arith) (mul-pos (omega arith) (hv .0))) (v .1 .0))
+        (record { re = same uR c x; im = same x c x })
+        (by 16 (9500 * c) (1000000 + 6 * x) _ _ (omega arith) (v .0) (v .1)
+        (by 8 own 100000000 _ _ (omega arith) ho (omega arith, omega arith) (by 0 own kVA _ _ (omega arith) ho hv (start uR x hr l))))
+
+-- a machine whose impedance is split by f: the pair f·ρ and f·100 first
+split-start : (ρ : ℕ) → Calculated 0 (record { re = splitOf ρ * ρ; im = splitOf ρ * 100; den = 1 }) (splitBy ρ)
+unfolding splitBy
+split-start ρ = start (splitOf ρ * ρ) (splitOf ρ * 100) (omega (arith, split-re-most ρ)) (omega (arith, split-im-most ρ))
+
+pub feeder-near : (tolerance Un kVA ρ : ℕ) → Factor Un → Factor kVA → Calculated 24 (feeder tolerance Un kVA ρ) (feederBy tolerance Un kVA ρ)
+unfolding feeder feederBy split
+feeder-near tolerance Un kVA ρ hu hv = go (factorC tolerance Un) (splitOf ρ * ρ) (splitOf ρ * 100) (factorC-sized tolerance Un) (split-start ρ)
+  where
+    same : (a c : ℕ) → a * Un * Un * c * (100000000 * (100 * (1000 * kVA))) ≡ a * (c * (Un * Un)) * (1 * kVA * 100000 * 100000000)
+    same a c = identity (a ∷ Un ∷ c ∷ kVA ∷ []) (search read depth 40 fits 20000) refl
+
+    go : (c a b : ℕ) → (100 < c) × (c ≤ 110) → Calculated 0 (record { re = a; im = b; den = 1 }) (splitBy ρ)
+        → Calculated 24 (times (c * (Un * Un)) (100 * (1000 * kVA)) (record { re = a; im = b; den = 100000000 })) (scaled c 100000000 (scaled Un 100000 (scaled Un kVA (splitBy ρ))))
+    go c a b h s =
+        equal 24 (times c 100000000 (times Un 100000 (times Un kVA (record { re = a; im = b; den = 1 })))) _ _
+        (mul-pos (omega arith) (mul-pos (omega arith) (mul-pos (omega arith) (hv .0))))
+        (record { re = same a c; im = same b c })
+        (by 16 c 100000000 _ _ (omega arith) (omega arith, omega arith) (omega arith, omega arith)
+        (by 8 Un 100000 _ _ (omega arith) hu (omega arith, omega arith) (by 0 Un kVA _ _ (omega arith) hu hv s)))
+
+pub motor-near : (Ur kVA ratio ρ : ℕ) → Factor Ur → Factor kVA → Factor ratio → Calculated 32 (motor Ur kVA ratio ρ) (motorBy Ur kVA ratio ρ)
+unfolding motor motorBy split
+motor-near Ur kVA ratio ρ hu hv hr =
+    equal 32 (times 1 100000 (times 1 100000 (times Ur ratio (times Ur kVA (record { re = splitOf ρ * ρ; im = splitOf ρ * 100; den = 1 }))))) _ _
+    (mul-pos (omega arith) (mul-pos (hr .0) (mul-pos (omega arith) (hv .0))))
+    (record { re = same (splitOf ρ * ρ); im = same (splitOf ρ * 100) })
+    (by 24 1 100000 _ _ (omega arith) (omega arith, omega arith) (omega arith, omega arith)
+    (by 16 1 100000 _ _ (omega arith) (omega arith, omega arith) (omega arith, omega arith)
+    (by 8 Ur ratio _ _ (omega arith) hu hr (by 0 Ur kVA _ _ (omega arith) hu hv (split-start ρ)))))
+  where
+    same : (a : ℕ) → a * Ur * Ur * 1 * 1 * (100000000 * (ratio * (1000 * kVA))) ≡ a * (10 * (Ur * Ur)) * (1 * kVA * ratio * 100000 * 100000)
+    same a = identity (a ∷ Ur ∷ kVA ∷ ratio ∷ []) (search read depth 40 fits 20000) refl
+
+pub generator-near : (tolerance Un Ur kVA xd ρ powerFactor : ℕ) → xd ≤ 100000 → ρ ≤ 200 → Factor Un → Factor Ur → Factor kVA
+    → Calculated 24 (generator tolerance Un Ur kVA xd ρ powerFactor) (generatorBy tolerance Un Ur kVA xd ρ powerFactor)
+unfolding generator generatorBy
+generator-near tolerance Un Ur kVA xd ρ powerFactor hx hρ hn hr hv =
+    rw (le-leb xd 100000 hx, le-leb ρ 200 hρ)
+    (go (factorC tolerance Un) (xd * sineOf powerFactor) (factorC-sized tolerance Un) (saturation-most xd powerFactor hx))
+  where
+    same : (a c s : ℕ) → a * Ur * Un * c * (10000000 * (1000 * kVA) * (Ur * (1000000000 + s))) ≡ a * (Ur * Ur) * (Un * (10000000 * c)) * (1 * kVA * 1000 * (1000000000 + s))
+    same a c s = identity (a ∷ Un ∷ Ur ∷ kVA ∷ c ∷ s ∷ []) (search read depth 40 fits 20000) refl
+
+    go : (c s : ℕ) → (100 < c) × (c ≤ 110) → s ≤ 1000000000
+        → Calculated 24 (times (Un * (10000000 * c)) (Ur * (1000000000 + s)) (times (Ur * Ur) (1000 * kVA) (record { re = xd * ρ; im = xd * 100; den = 10000000 })))
+        (scaled c (1000000000 + s) (scaled Un 1000 (scaled Ur kVA (wholePoint (xd * ρ) (xd * 100)))))
+    go c s h l =
+        equal 24 (times c (1000000000 + s) (times Un 1000 (times Ur kVA (record { re = xd * ρ; im = xd * 100; den = 1 })))) _ _
+        (mul-pos (mul-pos (omega arith) (mul-pos (omega arith) (hv .0))) (mul-pos (hr .0) (omega arith)))
+        (record { re = same (xd * ρ) c s; im = same (xd * 100) c s })
+        (by 16 c (1000000000 + s) _ _ (omega arith) (omega arith, omega arith) (omega arith, omega arith)
+        (by 8 Un 1000 _ _ (omega arith) hn (omega arith, omega arith)
+        (by 0 Ur kVA _ _ (omega arith) hr hv (start (xd * ρ) (xd * 100) (omega (arith, mul-le-mul hx hρ)) (omega arith)))))

@@ -1,0 +1,16 @@
+pub mod Root
+pub mod Distance
+pub mod Close
+pub mod Nearness
+pub mod RoundedOnce
+pub mod Rounding
+pub mod Units
+pub mod Climb
+pub mod StepErrors
+pub mod F64Errors
+pub mod F64Range
+pub mod ElementStart
+pub mod ChainErrors
+pub mod WholeBounds
+pub mod RootGuess
+pub mod WholeF64

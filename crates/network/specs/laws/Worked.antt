@@ -1,0 +1,148 @@
+-- Document 01's worked network of two buses, by computing the definitions; its verdict follows from demand 3 alone.
+-- Assumes nothing.
+use Prim.Native.Nat.{ℕ, _+_, _*_, _≤_, _<_}
+use mathlib.Core.Path.{_≡_, refl, _∙_}
+use mathlib.Core.Bool.{true}
+use mathlib.Core.List.{List, [], _∷_}
+use native.Mathlib.Omega.{arith}
+use native.Mathlib.Nat.{lt-of-not-le, le-dest}
+use lib.Dec.{eqb→eq, leb→le, le→leb, ltb→lt, lit<}
+use borrow.Author.Tests.{le-ltb, lt-leb}
+use Rattle.algebra.specs.Reading.{from, read, _⊹_, _⋆_}
+use Rattle.enclosure.specs.Exact.{inverse, rootOf, rootUp}
+use Rattle.enclosure.specs.laws.Root.{below-of-squares}
+use Rattle.elements.specs.Factors.{tOver, tUnder, numerator, denominator, factorC, sineOf, splitOf}
+use Rattle.elements.specs.Peak.{PeakBound, peakOver, peakUnder, crest}
+use Rattle.elements.specs.laws.Worked as factors
+use Rattle.elements.specs.Impedance.{line, split, feeder, generator, converter}
+use Rattle.tree.specs.Grid.{joined, neighbour, through, seen, across, carriedWithout}
+use Rattle.network.specs.declared.study.Bus.{Bus}
+use Rattle.network.specs.declared.study.Source.{Source}
+use Rattle.network.specs.declared.query.Verdict.the-variants.{Close}
+use Rattle.network.specs.Demand.{verdictOn, Figures, NotAbove, NotBelow, driving, MachinesHold, ConvertersHold}
+use Rattle.network.specs.Network.{Network, openOf, closedAs, along}
+use Rattle.network.specs.Records.{branchOk}
+use Rattle.network.specs.SourceKinds.{fieldsOk, impedanceOf}
+use Rattle.network.specs.Grounds.{depthOk, busRecordNumber, busNumberIn, afterBusIn, sourceRecordNumber, sourceNumberIn, afterSourceIn, closeNumber, afterClose, Call, starting, addingBus, addingSource, closing, run}
+use Rattle.network.specs.laws.Rebuilt.{run-rebuilt}
+use Rattle.network.specs.Grid.{branchOf, aboveOf, belowOf, impedanceAt, convertersAt}
+use Rattle.network.specs.Query.{verdictGiven, foundGiven}
+use Rattle.network.specs.laws.Promise.{kept}
+
+-- "Bus 0 at 10,000 V, feeder 100,000 kVA, ρ 0; bus 1 over a line r 0, x 1,000, 1,100 m, 1 circuit; at bus 1 a generator 10,000 V,
+-- 10,000 kVA, xd 20,000, ρ 0, power factor 100", "a converter of 1,000 tenths, k 200, at bus 1"; "rating 7,898 with ample peak rating"
+abbrev first : Bus
+first = record { parent = 0; volts = 10000; kind = 0; f1 = 0; f2 = 0; f3 = 0; f4 = 0; f5 = 0; rating = 7898; «peak_rating» = 3000000 }
+
+abbrev second : Bus
+second = record { parent = 0; volts = 10000; kind = 1; f1 = 0; f2 = 1000; f3 = 1100; f4 = 1; f5 = 0; rating = 7898; «peak_rating» = 3000000 }
+
+abbrev infeed : Source
+infeed = record { kind = 1; bus = 0; f1 = 100000; f2 = 0; f3 = 0; f4 = 0; f5 = 0 }
+
+abbrev machine : Source
+machine = record { kind = 2; bus = 1; f1 = 10000; f2 = 10000; f3 = 20000; f4 = 0; f5 = 100 }
+
+abbrev solar : Source
+solar = record { kind = 4; bus = 1; f1 = 1000; f2 = 200; f3 = 0; f4 = 0; f5 = 0 }
+
+abbrev two : Network
+two = closedAs true (openOf 10 (first ∷ second ∷ []) (infeed ∷ machine ∷ solar ∷ []))
+
+abbrev twoCalls : List Call
+twoCalls = starting 10 ∷ addingBus first ∷ addingBus second ∷ addingSource infeed ∷ addingSource machine ∷ addingSource solar ∷ closing ∷ []
+
+-- the calls that make it are accepted
+two-made : run twoCalls ≡ two
+unfolding run afterBusIn busNumberIn busRecordNumber branchOk depthOk along afterSourceIn sourceNumberIn sourceRecordNumber fieldsOk afterClose closeNumber
+two-made = refl
+
+impedances : (impedanceAt two 0 .re ≡ 0) × (1000 * impedanceAt two 0 .im ≡ 825 * impedanceAt two 0 .den) × (impedanceAt two 1 .re ≡ 0) × (10 * impedanceAt two 1 .im ≡ 11 * impedanceAt two 1 .den)
+unfolding seen through joined neighbour inverse branchOf aboveOf belowOf impedanceOf line feeder split generator splitOf rootOf sineOf rootUp factorC
+impedances = (
+  eqb→eq (impedanceAt two 0 .re) 0 tt,
+  eqb→eq (1000 * impedanceAt two 0 .im) (825 * impedanceAt two 0 .den) tt,
+  eqb→eq (impedanceAt two 1 .re) 0 tt,
+  eqb→eq (10 * impedanceAt two 1 .im) (11 * impedanceAt two 1 .den) tt,
+)
+
+current : NotAbove (driving two 0) (impedanceAt two 0) 7698 × NotBelow (driving two 0) (impedanceAt two 0) 7699
+unfolding seen through joined neighbour inverse branchOf aboveOf belowOf impedanceOf line feeder split generator splitOf rootOf sineOf rootUp factorC
+current = (leb→le _ _ tt, leb→le _ _ tt)
+
+converters : convertersAt two 0 .re ≡ 200 * convertersAt two 0 .den
+unfolding carriedWithout across joined neighbour aboveOf belowOf converter
+converters = eqb→eq (convertersAt two 0 .re) (200 * convertersAt two 0 .den) tt
+
+-- ---- the verdict at bus 0 is close, whichever bounds are given inside demand 3
+below-next : (x n l k : ℕ) → 30000 * (l * l) * n ≤ x → x < 30000 * (k * k) * n → l < k
+below-next x n l k h g = below-of-squares l k (lt-of-not-le (λ (q : k * k ≤ l * l). absurd (le→leb 1 0 (from (x ∷ n ∷ l ∷ k ∷ []) (h ⊹ g ⊹ 30000 * n ⋆ q) (search read depth 40 fits 20000) refl))))
+
+above-last : (x n u k : ℕ) → x ≤ 30000 * (u * u) * n → 30000 * (k * k) * n < x → k < u
+above-last x n u k h g = below-of-squares k u (lt-of-not-le (λ (q : u * u ≤ k * k). absurd (le→leb 1 0 (from (x ∷ n ∷ u ∷ k ∷ []) (h ⊹ g ⊹ 30000 * n ⋆ q) (search read depth 40 fits 20000) refl))))
+
+-- a peak of a million is too far above
+peak-few : (n e v : ℕ) → PeakBound n e v → 10404 * e < 10000 * (1000000 * 1000000) * v → n < 1000004
+peak-few n e v p g = lt-of-not-le (λ (l : 1000004 ≤ n). far (le-dest l .0) (le-dest l .1))
+  where
+    far : (d : ℕ) → 1000004 + d ≡ n → ⊥
+    far d q = absurd (le→leb 1 0 (from (d ∷ e ∷ v ∷ []) (p .near (1000000 + d) (omega arith) ⊹ g) (search read depth 40 fits 20000) refl))
+
+module _ (f : Figures) (m : MachinesHold (driving two 0) (impedanceAt two 0) (f .lower) (f .upper) (f .peak))
+    (c : ConvertersHold (convertersAt two 0) (f .«converters_lower») (f .«converters_upper») (f .«converters_peak»)) where
+  lower-most : f .lower < 7699
+  unfolding seen through joined neighbour inverse branchOf aboveOf belowOf impedanceOf line feeder split generator splitOf rootOf sineOf rootUp factorC
+  lower-most = below-next _ _ (f .lower) 7699 (m .below) (ltb→lt _ _ tt)
+
+  upper-least : 7698 < f .upper
+  unfolding seen through joined neighbour inverse branchOf aboveOf belowOf impedanceOf line feeder split generator splitOf rootOf sineOf rootUp factorC
+  upper-least = above-last _ _ (f .upper) 7698 (m .above) (ltb→lt _ _ tt)
+
+  peak-most : f .peak < 1000004
+  unfolding seen through joined neighbour inverse branchOf aboveOf belowOf impedanceOf line feeder split generator splitOf rootOf sineOf rootUp factorC peakOver peakUnder crest tOver tUnder numerator denominator
+  peak-most = peak-few (f .peak) _ _ (m .crest) (ltb→lt _ _ tt)
+
+  -- the numbers are small here, so that they are compared as they are
+  converters-lower : f .«converters_lower» ≤ 200
+  unfolding carriedWithout across joined neighbour aboveOf belowOf converter
+  converters-lower = let h = c .below in omega arith
+
+  converters-upper : 200 ≤ f .«converters_upper»
+  unfolding carriedWithout across joined neighbour aboveOf belowOf converter
+  converters-upper = let h = c .above in omega arith
+
+  converters-peak : f .«converters_peak» < 1000004
+  unfolding carriedWithout across joined neighbour aboveOf belowOf converter
+  converters-peak = peak-few (f .«converters_peak») _ _ (c .crest) (ltb→lt _ _ tt)
+
+  close : verdictOn (f .lower + f .«converters_lower») (f .upper + f .«converters_upper») (f .peak + f .«converters_peak») 7898 3000000 ≡ Close
+  close =
+      rw (
+        le-ltb 3000000 (f .peak + f .«converters_peak») (omega (arith, peak-most, converters-peak)),
+        le-ltb 7898 (f .lower + f .«converters_lower») (omega (arith, lower-most, converters-lower)),
+        lt-leb (f .upper + f .«converters_upper») 7898 (omega (arith, upper-least, converters-upper)),
+      )
+
+-- and so by the bounds that a query gives
+two-close : verdictGiven two 0 ≡ Close
+unfolding foundGiven
+two-close =
+    let k = kept (rw two-made at (run-rebuilt twoCalls)) refl 0 (lit< tt) in
+    let d = k .demand in
+    k .verdict (d .figures) (d .whole) ∙ close (d .figures) (d .machines) (d .converters)
+
+-- DOCUMENT 01'S STARRED POINTS, as one table
+pub record Starred : Type 0 where
+  pub factors : factors.Starred
+  pub made : run twoCalls ≡ two
+  -- "Z is 0.825 Ω at bus 0 and 1.1 Ω at bus 1."
+  pub impedances : (impedanceAt two 0 .re ≡ 0) × (1000 * impedanceAt two 0 .im ≡ 825 * impedanceAt two 0 .den) × (impedanceAt two 1 .re ≡ 0) × (10 * impedanceAt two 1 .im ≡ 11 * impedanceAt two 1 .den)
+  -- "I at bus 0 is between 7,698 and 7,699."
+  pub current : NotAbove (driving two 0) (impedanceAt two 0) 7698 × NotBelow (driving two 0) (impedanceAt two 0) 7699
+  -- "200 A more"
+  pub converters : convertersAt two 0 .re ≡ 200 * convertersAt two 0 .den
+  -- "rating 7,898 with ample peak rating gives C"
+  pub verdict : verdictGiven two 0 ≡ Close
+
+pub starred : Starred
+starred = record { factors = factors.starred; made = two-made; impedances = impedances; current = current; converters = converters; verdict = two-close }

@@ -1,0 +1,134 @@
+// The calls on a study: started with a voltage tolerance, given bus records and source records one by one, closed.
+// Every call is total: it carries the number of the ground on which it was refused, 0 where it was accepted.
+ghost use mathlib.Core.Path.{_≡_};
+ghost use Rattle.network.specs.Network.{network};
+ghost use Rattle.network.specs.Grounds.{startNumber, startNetwork, busNumber, afterBus, sourceNumber, afterSource, closeNumber, afterClose};
+use crate::bus_grounds::bus_record_number;
+use crate::source_grounds::source_record_number;
+use crate::study::BUSES;
+use crate::study::Bus;
+use crate::study::SOURCES;
+use crate::study::Source;
+use crate::study::Study;
+use crate::study::empty_study;
+
+// What a call gives: the number of its ground and the study after it.
+pub struct Answer {
+    pub number: u32,
+    pub study: Study,
+}
+
+// A study of this tolerance. Refused: 1 where it is not 6 or 10; then the study has tolerance 6.
+pub fn start(tolerance: u32) -> Answer
+    ensures number { λ r. ⌜ r .number ≡ startNumber tolerance ⌝ }
+    ensures network { λ r. ⌜ network (r .study) ≡ startNetwork tolerance ⌝ }
+{
+    if (tolerance == 6) | (tolerance == 10) {
+        let study = empty_study(tolerance);
+        return Answer { number: 0, study };
+    }
+    let study = empty_study(6);
+    Answer { number: 1, study }
+}
+
+// The ground on which a bus record is refused, 0 where it is accepted. The record is tried at the next place of the array.
+fn bus_number(s: Study, b: Bus) -> u32
+    ensures { λ r. ⌜ r ≡ busNumber (network s) b ⌝ }
+{
+    if s.closed {
+        return 21;
+    }
+    let n = s.bus_count;
+    if BUSES <= n {
+        return 23;
+    }
+    let mut buses = s.buses;
+    buses[n] = b;
+    bus_record_number(buses, n)
+}
+
+// The study with a bus more. Refused: 21 closed, 23 no room, 2 to 9 by the record.
+pub fn add_bus(s: Study, b: Bus) -> Answer
+    ensures number { λ r. ⌜ r .number ≡ busNumber (network s) b ⌝ }
+    ensures kept { λ r. ⌜ ((r .number ≡ 0 → ⊥) → r .study ≡ s) ⌝ }
+    ensures network { λ r. ⌜ network (r .study) ≡ afterBus (network s) b ⌝ }
+{
+    let bus_ground = bus_number(s, b);
+    if bus_ground != 0 {
+        return Answer {
+            number: bus_ground,
+            study: s,
+        };
+    }
+    let n = s.bus_count;
+    let mut next = s;
+    next.buses[n] = b;
+    next.bus_count = n + 1;
+    Answer {
+        number: bus_ground,
+        study: next,
+    }
+}
+
+// The ground on which a source record is refused, 0 where it is accepted.
+fn source_number(s: Study, p: Source) -> u32
+    ensures { λ r. ⌜ r ≡ sourceNumber (network s) p ⌝ }
+{
+    if s.closed {
+        return 21;
+    }
+    let n = s.source_count;
+    if SOURCES <= n {
+        return 24;
+    }
+    source_record_number(s, n, p)
+}
+
+// The study with a source more. Refused: 21 closed, 24 no room, 10 to 14 by the record.
+pub fn add_source(s: Study, p: Source) -> Answer
+    ensures number { λ r. ⌜ r .number ≡ sourceNumber (network s) p ⌝ }
+    ensures kept { λ r. ⌜ ((r .number ≡ 0 → ⊥) → r .study ≡ s) ⌝ }
+    ensures network { λ r. ⌜ network (r .study) ≡ afterSource (network s) p ⌝ }
+{
+    let source_ground = source_number(s, p);
+    if source_ground != 0 {
+        return Answer {
+            number: source_ground,
+            study: s,
+        };
+    }
+    let n = s.source_count;
+    let mut next = s;
+    next.sources[n] = p;
+    next.source_count = n + 1;
+    Answer {
+        number: source_ground,
+        study: next,
+    }
+}
+
+// The study closed. Refused: 21 closed already, 25 without a source.
+pub fn close(s: Study) -> Answer
+    ensures number { λ r. ⌜ r .number ≡ closeNumber (network s) ⌝ }
+    ensures kept { λ r. ⌜ ((r .number ≡ 0 → ⊥) → r .study ≡ s) ⌝ }
+    ensures network { λ r. ⌜ network (r .study) ≡ afterClose (network s) ⌝ }
+{
+    if s.closed {
+        return Answer {
+            number: 21,
+            study: s,
+        };
+    }
+    if s.source_count == 0 {
+        return Answer {
+            number: 25,
+            study: s,
+        };
+    }
+    let mut next = s;
+    next.closed = true;
+    Answer {
+        number: 0,
+        study: next,
+    }
+}

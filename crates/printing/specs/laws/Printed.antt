@@ -1,0 +1,67 @@
+-- How long what is printed can be, and worked numbers. Assumes nothing.
+use Prim.Native.Nat.{ℕ, zero, suc, _+_, _-_, _/_, _%_, _≤_}
+use native.Mathlib.Omega.{arith}
+use mathlib.Core.Path.{_≡_, refl}
+use lib.Dec.{ltb, leb}
+use mathlib.Core.Bool.{cond}
+use mathlib.Core.List.{List, [], _∷_, _++_}
+use lib.ListN.{length, length-append}
+use Rattle.network.specs.declared.query.Amperes.{Amperes}
+use Rattle.network.specs.declared.query.Verdict.{Verdict}
+use Rattle.network.specs.Demand.{Figures}
+use Rattle.network.specs.laws.Tests.{by-test}
+use Rattle.printing.specs.Printed.{decimal, nextText, digitsOf, amperesText, wholeOf, letterText}
+
+-- the same as a whole number, of whole sums L, U and P: "Over, by P − rated peak, ..; otherwise over, by L − rating, ..; within, with
+-- margin rating − U, ..; otherwise close" (`amount-printed` in Whole)
+abbrev pub amountOn : ℕ → ℕ → ℕ → ℕ → ℕ → ℕ
+amountOn L U P rating peakRating = cond (ltb peakRating P) (P - peakRating) (cond (ltb rating L) (L - rating) (cond (leb U rating) (rating - U) 0))
+
+-- 0 and 7,698
+worked : (decimal 0 ≡ 48 ∷ []) × (decimal 7698 ≡ 55 ∷ 54 ∷ 57 ∷ 56 ∷ [])
+unfolding decimal
+worked = (refl, refl)
+
+-- six whole numbers in their place: what the amperes are printed as where they are these numbers (`amperes-printed` in Whole)
+unfoldable pub figuresText : Figures → List ℕ
+figuresText f =
+    nextText (f .lower)
+    ++ nextText (f .upper)
+    ++ nextText (f .«converters_lower»)
+    ++ nextText (f .«converters_upper»)
+    ++ nextText (f .peak)
+    ++ nextText (f .«converters_peak»)
+
+-- ---- lengths, so that a row is seen to fit a line
+digits-length : (k n : ℕ) → length (digitsOf k n) ≤ k
+digits-length zero n = omega arith
+digits-length (suc k) n =
+    by-test (ltb n 10)
+    (λ t. rw t (omega arith))
+    (λ t. rw t (omega (arith, length-append (digitsOf k (n / 10)) ((48 + n % 10) ∷ []), digits-length k (n / 10))))
+
+pub decimal-length : (n : ℕ) → length (decimal n) ≤ 20
+unfolding decimal
+decimal-length n = digits-length 20 n
+
+pub next-length : (n : ℕ) → length (nextText n) ≤ 21
+unfolding nextText
+next-length n = omega (arith, decimal-length n)
+
+pub amperes-length : (a : Amperes) → length (amperesText a) ≤ 126
+unfolding amperesText
+amperes-length a =
+    simp length-append
+    (omega (
+      arith,
+      next-length (wholeOf (a .lower .0)),
+      next-length (wholeOf (a .upper .0)),
+      next-length (wholeOf (a .«converters_lower» .0)),
+      next-length (wholeOf (a .«converters_upper» .0)),
+      next-length (wholeOf (a .peak .0)),
+      next-length (wholeOf (a .«converters_peak» .0)),
+    ))
+
+pub letter-length : (v : Verdict) → length (letterText v) ≡ 2
+unfolding letterText
+letter-length v = refl

@@ -1,0 +1,5 @@
+pub mod Stretches
+pub mod Gathered
+pub mod FileAsCalls
+pub mod Editions
+pub mod EditionsLaw
