@@ -1,7 +1,7 @@
 -- What the text of a file means, by document 01, "The file": its rows, their fields and numbers, the records that these give, and
 -- the outcome of taking them in order.
 use mathlib.Core.Bool.{Bool, true, false, not, cond, _&&_, _||_}
-use mathlib.Core.List.{List, [], _∷_}
+use mathlib.Core.List.{List, [], _∷_, _++_}
 use Prim.Native.Nat.{ℕ, _+_, _*_, _-_, _^_, max}
 use lib.Dec.{ltb, eqb}
 use lib.ListN.{length, getD}
@@ -9,7 +9,7 @@ use Rattle.network.specs.declared.study.Bus.{Bus}
 use Rattle.network.specs.declared.study.Source.{Source}
 use Rattle.network.specs.Records.{within}
 use Rattle.network.specs.Network.{Network, network, Limits, here}
-use Rattle.network.specs.Grounds.{startNumber, startNetwork, busNumberIn, afterBusIn, sourceNumberIn, afterSourceIn, closeNumber, afterClose, emptyNetwork}
+use Rattle.network.specs.Grounds.{startNumber, startNetwork, busNumberIn, afterBusIn, sourceNumberIn, afterSourceIn, closeNumber, afterClose, Call, starting, addingBus, addingSource, closing, emptyNetwork}
 use Rattle.reader.specs.declared.Number.{Number}
 use Rattle.reader.specs.declared.Number.the-variants.{Value, Broken}
 use Rattle.reader.specs.declared.Reading.{Reading}
@@ -223,3 +223,23 @@ readIn L text = cond (within (length text) 1 maxBytes) (readFromIn L 0 emptyNetw
 -- WHAT A TEXT MEANS in this edition
 abbrev pub readOf : List ℕ → Outcome
 readOf = readIn here
+
+-- ---- a file as calls
+-- "an accepted file counts as a start, additions and a closing by its rows"
+abbrev pub callOf : Row → List Call
+callOf (Start t) = starting t ∷ []
+callOf (WithBus b) = addingBus b ∷ []
+callOf (WithSource p) = addingSource p ∷ []
+callOf Malformed = []
+
+-- the rows that follow i others
+abbrev pub callsFrom : ℕ → List (List ℕ) → List Call
+callsFrom i [] = closing ∷ []
+callsFrom i (r ∷ rs) = callOf (rowOf (eqb i 0) r) ++ callsFrom (i + 1) rs
+
+abbrev pub calls : List ℕ → List Call
+calls text = callsFrom 0 (rows text)
+
+-- "A refused start or file leaves tolerance 6 and no records"
+unfoldable pub callsRead : List ℕ → List Call
+callsRead text = cond (eqb (readOf text .number) 0) (calls text) (starting 6 ∷ [])

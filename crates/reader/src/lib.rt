@@ -3,8 +3,8 @@ ghost use mathlib.Core.Path.{_≡_};
 ghost use Prim.Native.Nat.{_≤_};
 ghost use lib.ListN.{length};
 ghost use Rattle.network.specs.Network.{network};
-ghost use Rattle.network.specs.Grounds.{emptyNetwork};
-ghost use Rattle.reader.specs.File.{maxBytes, rows, rowNumber, afterRow, outcomeOf, refusedAt, closeAfter, readFrom, readOf};
+ghost use Rattle.network.specs.Grounds.{emptyNetwork, run};
+ghost use Rattle.reader.specs.File.{maxBytes, rows, rowNumber, afterRow, outcomeOf, refusedAt, closeAfter, readFrom, readOf, callsRead};
 
 mod fields;
 mod rows;
@@ -128,11 +128,13 @@ fn read_rows(text: &[u8]) -> Reading
     closed_after(row, study)
 }
 
-// The study that a text gives, closed, or the first ground on which it is refused, with the row.
+// The study that a text gives, closed, or the first ground on which it is refused, with the row. By the clause `calls` it is a study that
+// calls made, so that whatever a query promises of such a study holds of what was read.
 pub fn read(text: &[u8]) -> Reading
     ensures number { λ r. ⌜ r .number ≡ readOf (now (text .entry)) .number ⌝ }
     ensures row { λ r. ⌜ r .row ≡ readOf (now (text .entry)) .row ⌝ }
     ensures network { λ r. ⌜ network (r .study) ≡ readOf (now (text .entry)) .network ⌝ }
+    ensures calls { λ r. ⌜ network (r .study) ≡ run (callsRead (now (text .entry))) ⌝ }
 {
     let n = text.len();
     if (1 <= n) & (n <= BYTES) {

@@ -19,8 +19,8 @@ use Rattle.network.specs.Promise.{Kept}
 use Rattle.printing.specs.Printed.{decimal, letterText}
 use Rattle.printing.specs.laws.Printed.{figuresText}
 use Rattle.printing.specs.laws.WholePrinted.{amperes-printed}
-use Rattle.reader.specs.File.{readOf}
-use Rattle.reader.specs.laws.FileAsCalls.{calls, read-run, read-kept}
+use Rattle.reader.specs.File.{readOf, calls}
+use Rattle.reader.specs.laws.FileAsCalls.{read-run, read-kept}
 use Rattle.noldveig.specs.Rows.{crlf, busRow}
 
 -- the row of a bus by six whole numbers: number,lower,upper,lower,upper,peak,peak,letter and CRLF

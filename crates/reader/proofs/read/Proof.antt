@@ -1,16 +1,23 @@
 -- `read` meets its contract: a text that is empty or too long is refused, any other is read row by row.
 use mathlib.Core.Path.{_≡_, refl, ap, _∙_}
+use mathlib.Core.List.{List}
+use Prim.Native.Nat.{ℕ}
 use borrow.Author.Needs.{needs}
 use lib.ListN.{length}
 use Rattle.network.specs.Network.{network}
+use Rattle.network.specs.Grounds.{run}
 use Rattle.network.specs.laws.Tests.{within-true}
 use Rattle.reader.specs.declared.Reading.{Reading}
-use Rattle.reader.specs.File.{maxBytes, Outcome, outcomeOf, readIn}
+use Rattle.reader.specs.File.{maxBytes, Outcome, outcomeOf, readIn, readOf, callsRead}
+use Rattle.reader.specs.laws.FileAsCalls.{read-made}
 use Rattle.reader.proofs.read.Statement.{statement}
 use Rattle.reader.proofs.read.Tie as tie
 
-parts : (r : Reading) (o : Outcome) → outcomeOf r ≡ o → (r .number ≡ o .number) × ((r .row ≡ o .row) × (network (r .study) ≡ o .network))
-parts r o e = (ap (λ (x : Outcome). x .number) e, (ap (λ (x : Outcome). x .row) e, ap (λ (x : Outcome). x .network) e))
+parts : (r : Reading) (text : List ℕ) → outcomeOf r ≡ readOf text
+    → (r .number ≡ readOf text .number) × ((r .row ≡ readOf text .row) × ((network (r .study) ≡ readOf text .network) × (network (r .study) ≡ run (callsRead text))))
+parts r text e =
+    let n = ap (λ (x : Outcome). x .network) e in
+    (ap (λ (x : Outcome). x .number) e, (ap (λ (x : Outcome). x .row) e, (n, n ∙ read-made text)))
 
 read-rows-requires : tie.Need-read-rows-requires
 read-rows-requires c κs = within-true (length (c .before .before .args .text .now)) 1 maxBytes (c .if1 .taken) .1

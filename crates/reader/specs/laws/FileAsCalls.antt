@@ -3,12 +3,12 @@ use mathlib.Core.Path.{_≡_, refl, sym, ap, _∙_}
 use mathlib.Core.Bool.{true}
 use mathlib.Core.List.{List, [], _∷_, _++_}
 use Prim.Native.Nat.{ℕ, _+_, _<_}
-use borrow.Author.Tests.{eqb-false}
+use borrow.Author.Tests.{eqb-true, eqb-false}
 use lib.Dec.{eqb}
 use lib.ListN.{length}
 use Rattle.network.specs.Records.{within}
 use Rattle.network.specs.Network.{Network}
-use Rattle.network.specs.Grounds.{closeNumber, afterClose, Call, starting, addingBus, addingSource, closing, runFrom, emptyNetwork, run}
+use Rattle.network.specs.Grounds.{closeNumber, afterClose, Call, starting, runFrom, emptyNetwork, run}
 use Rattle.network.specs.declared.query.Found.{Found}
 use Rattle.network.specs.laws.Calls.{run-append}
 use Rattle.network.specs.Query.{amperesGiven, foundGiven}
@@ -19,22 +19,7 @@ use Rattle.network.specs.laws.NearPeaks.{near-promised}
 use Rattle.network.specs.laws.Tests.{by-test}
 use Rattle.reader.specs.declared.Row.{Row}
 use Rattle.reader.specs.declared.Row.the-variants.{Start, WithBus, WithSource, Malformed}
-use Rattle.reader.specs.File.{maxBytes, rows, rowOf, rowNumber, afterRow, Outcome, closeAfter, readFromIn, readFrom, readIn, readOf}
-
--- "an accepted file counts as a start, additions and a closing by its rows"
-abbrev pub callOf : Row → List Call
-callOf (Start t) = starting t ∷ []
-callOf (WithBus b) = addingBus b ∷ []
-callOf (WithSource p) = addingSource p ∷ []
-callOf Malformed = []
-
--- the rows that follow i others
-abbrev pub callsFrom : ℕ → List (List ℕ) → List Call
-callsFrom i [] = closing ∷ []
-callsFrom i (r ∷ rs) = callOf (rowOf (eqb i 0) r) ++ callsFrom (i + 1) rs
-
-abbrev pub calls : List ℕ → List Call
-calls text = callsFrom 0 (rows text)
+use Rattle.reader.specs.File.{maxBytes, rows, rowOf, rowNumber, afterRow, Outcome, closeAfter, readFromIn, readFrom, readIn, readOf, callOf, callsFrom, calls, callsRead}
 
 -- a row leaves what its call leaves
 row-run : (n : Network) (said : Row) (cs : List Call) → runFrom n (callOf said ++ cs) ≡ runFrom (afterRow n said) cs
@@ -121,3 +106,11 @@ refused-run text h =
 pub refused-then : (text : List ℕ) → (readOf text .number ≡ 0 → ⊥) → (cs : List Call) → runFrom (readOf text .network) cs ≡ run (starting 6 ∷ cs)
 unfolding run
 refused-then text h cs = rw (refused-run text h)
+
+-- ---- accepted or refused, a text leaves the network of calls
+pub read-made : (text : List ℕ) → readOf text .network ≡ run (callsRead text)
+unfolding callsRead
+read-made text =
+    by-test (eqb (readOf text .number) 0)
+    (λ t. rw t (read-run text (eqb-true (readOf text .number) 0 t)))
+    (λ t. rw t (refused-run text (eqb-false (readOf text .number) 0 t)))
