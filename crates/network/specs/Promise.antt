@@ -16,7 +16,8 @@ use Rattle.network.specs.Grounds.{Call, run}
 use Rattle.network.specs.Demand.{Figures, WholeAmperes, Demand, verdictOn}
 use Rattle.network.specs.Query.{amperesGiven}
 
--- the other sources are the machines: whatever is no converter
+-- "Networks are alike in all but their converters when tolerance, buses and the other sources, in order, agree." The other sources are the
+-- machines: whatever is no converter
 pub record Alike (n m : Network) : Type 0 where
   pub tolerance : n .tolerance ≡ m .tolerance
   pub buses : n .buses ≡ m .buses
