@@ -14,7 +14,7 @@ boards-requires c κs = search needs
 returns : tie.Need-returns
 returns c =
     let a = c .before .before .before .args in
-    c .boards .ensures ∙ ap (λ net. boardsOf net (a .k)) (c .before .read .ensures .1 .1)
+    c .boards .ensures ∙ ap (λ net. boardsOf net (a .k)) (c .before .read .ensures .1 .1 .0)
 
 pub network-boards-spec : {M : Type 1} → statement M
 network-boards-spec = tie.close (tie.spec read-requires boards-requires returns)

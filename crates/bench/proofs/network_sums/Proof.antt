@@ -18,7 +18,7 @@ sums-requires c κs = search needs
 returns : tie.Need-returns
 returns c =
     let a = c .before .before .before .args in
-    c .sums .ensures ∙ ap (λ net. sumsOf net (a .last + 1) (a .k)) (c .before .read .ensures .1 .1)
+    c .sums .ensures ∙ ap (λ net. sumsOf net (a .last + 1) (a .k)) (c .before .read .ensures .1 .1 .0)
 
 pub network-sums-spec : {M : Type 1} → statement M
 network-sums-spec = tie.close (tie.spec read-requires add-n sums-requires returns)

@@ -17,7 +17,7 @@ same-length c = search needs
 returns : tie.Need-returns
 returns c =
     let a = c .before .before .before .before .before .before .before .args in
-    ap (λ net. writtenTimes net (a .buffer .now) (a .k)) (sym (c .before .before .before .before .read .ensures .1 .1)) ∙ c .before .before .writes .ensures
+    ap (λ net. writtenTimes net (a .buffer .now) (a .k)) (sym (c .before .before .before .before .read .ensures .1 .1 .0)) ∙ c .before .before .writes .ensures
 
 pub study-writes-spec : {M : Type 1} → statement M
 study-writes-spec = tie.close (tie.spec read-requires writes-requires same-length returns)

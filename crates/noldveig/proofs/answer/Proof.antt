@@ -24,7 +24,7 @@ returns c =
     let then = c .before .before .before .before .before in
     let read = then .before .before .read .ensures in
     let text = then .before .before .before .before .before .args .text .now in
-    (done .0, done .1 ∙ ap boardText (read .1 .1) ∙ printed-board (readOf text) _ (read .0) (then .if1 .taken))
+    (done .0, done .1 ∙ ap boardText (read .1 .1 .0) ∙ printed-board (readOf text) _ (read .0) (then .if1 .taken))
 
 lay-refusal-requires : tie.Need-lay-refusal-requires
 lay-refusal-requires c κs = search needs

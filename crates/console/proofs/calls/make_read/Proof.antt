@@ -42,7 +42,7 @@ returns-2 c =
     let read = c .before .read .ensures in
     let text-of = c .before .before .text-of .ensures in
     λ h.
-    read-parts _ _ _ _ (read .0) (read .1 .0) (read .1 .1)
+    read-parts _ _ _ _ (read .0) (read .1 .0) (read .1 .1 .0)
     ∙ ap (λ (l : List ℕ). readBy (readOf l)) text-of
     ∙ read-bytes (network (a .s)) (a .rest .now) _ _ (sym (decoded .decode .ensures .0) ∙ told .before .decoded .given .1) (λ p l. decoded .decode .ensures .1 p l h)
 
