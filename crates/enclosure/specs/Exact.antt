@@ -64,6 +64,6 @@ exact = record { none = nothing; empty = isNothing; add = sum; inverse = inverse
 abbrev pub norm : ℕ → ℕ → ℕ
 norm a b = a * a + b * b
 
--- ---- whole numbers, and the quotient of two
+-- ---- a whole number as f64
 abbrev pub ofNat : ℕ → Float
 ofNat n = ofInt binary64 (pos n)

@@ -119,8 +119,8 @@ amounts [] = []
 amounts (f ∷ fs) = amount (numberOf f) ∷ amounts fs
 
 -- ---- records
--- "Bus record, ten fields", in their order. A number that the list does not have is 0, here and in a source record: so is a row filled
--- that has fewer numbers than the record has fields
+-- "Bus record, ten fields", in their order. A number that the list does not have would be 0, here and in a source record; a row that has
+-- too few numbers gives no record (`recordOf`)
 abbrev pub busOf : List ℕ → Bus
 busOf v = record {
   parent = getD v 0 0;

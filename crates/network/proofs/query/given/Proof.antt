@@ -1,4 +1,4 @@
--- `network::given` gives what Query defines. Assumes nothing.
+-- `network::query::given` gives what Query defines. Assumes nothing.
 use mathlib.Core.Path.{_≡_, sym, ap, _∙_}
 use Prim.Native.Nat.{_<_}
 use native.Mathlib.Omega.{arith}

@@ -1,4 +1,4 @@
--- `network::query` meets its contract: what Query defines keeps the promise. Assumes nothing.
+-- `network::query::query` meets its contract: what Query defines keeps the promise. Assumes nothing.
 use mathlib.Core.Path.{_≡_, ap}
 use borrow.Author.Needs.{needs}
 use Rattle.network.specs.declared.query.Found.{Found}

@@ -1,4 +1,4 @@
--- `network::query_all` meets its contract: each row keeps what a query promises. Assumes nothing.
+-- `network::query::query_all` meets its contract: each row keeps what a query promises. Assumes nothing.
 use mathlib.Core.Path.{ap}
 use Rattle.network.specs.declared.query.Found.{Found}
 use Rattle.network.specs.Network.{network}
