@@ -8,7 +8,7 @@ ghost use Rattle.network.specs.Grounds.{emptyOf};
 pub const BUSES: usize = sweep::BUSES;
 
 // The sources that a study has room for.
-pub const SOURCES: usize = 256;
+pub const SOURCES: usize = 512;
 
 // A bus with the branch to its parent. Of a line (kind 1) the fields are r, x, metres, circuits and 0; of a transformer (kind 2)
 // rated volts on the parent's side and on its own, kVA, uk and uR; bus 0 has kind 0 and no branch.

@@ -6,4 +6,4 @@ pub mod converters;
 pub mod sweeps;
 
 // The buses that a column has room for.
-pub const BUSES: usize = 64;
+pub const BUSES: usize = 128;

@@ -1,13 +1,13 @@
--- THE LIMITS of document 01, and every number of the definitions and laws that moves with them. The code has them as `BUSES` (sweep),
+-- THE LIMITS of document 01 as orders have moved them, and every number of the definitions and laws that moves with them. The code has them as `BUSES` (sweep),
 -- `SOURCES`, `BRANCHES` and `TRANSFORMERS` (network).
 use Prim.Native.Nat.{ℕ, _+_, _*_, _^_}
 
--- "At most 64 buses, 256 sources."
+-- "The limits become 128 buses and 512 sources; depth stays." (document 02, order 2)
 abbrev pub maxBuses : ℕ
-maxBuses = 64
+maxBuses = 128
 
 abbrev pub maxSources : ℕ
-maxSources = 256
+maxSources = 512
 
 -- the two limits of an edition of the program, since editions with others meet in one file; and those of this one
 pub record Limits : Type 0 where
