@@ -1,3 +1,4 @@
+mod Adding
 mod Filling
 mod Lists
 mod Sizes

@@ -3,6 +3,7 @@ pub mod Records
 pub mod SourceKinds
 pub mod Network
 pub mod Grounds
+pub mod Additions
 pub mod Grid
 pub mod Demand
 pub mod NearPeaks

@@ -32,7 +32,7 @@ pub fn start(tolerance: u32) -> Answer
 }
 
 // The ground on which a bus record is refused, 0 where it is accepted. The record is tried at the next place of the array.
-fn bus_number(s: Study, b: Bus) -> u32
+pub(crate) fn bus_number(s: Study, b: Bus) -> u32
     ensures { λ r. ⌜ r ≡ busNumber (network s) b ⌝ }
 {
     if s.closed {
@@ -71,7 +71,7 @@ pub fn add_bus(s: Study, b: Bus) -> Answer
 }
 
 // The ground on which a source record is refused, 0 where it is accepted.
-fn source_number(s: Study, p: Source) -> u32
+pub(crate) fn source_number(s: Study, p: Source) -> u32
     ensures { λ r. ⌜ r ≡ sourceNumber (network s) p ⌝ }
 {
     if s.closed {

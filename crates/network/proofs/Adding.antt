@@ -1,0 +1,72 @@
+-- A record stored behind those that are counted is an addition; and additions one after the other: the next one, and what all of them
+-- come to as it stands before and after it.
+use mathlib.Core.Path.{_≡_, sym}
+use mathlib.Core.List.{List, [], _∷_}
+use Prim.Native.Nat.{ℕ, _+_, _≤_, _<_}
+use native.Mathlib.Omega.{arith}
+use native.Mathlib.Numerals.{add-one}
+use borrow.Author.Tests.{ne-eqb}
+use lib.ListN.{length, set, take, drop, getD, length-take, drop-of-length-le}
+use lib.Seq.{drop-cons, getD-take}
+use Rattle.tree.specs.Limits.{maxBuses, maxSources}
+use Rattle.network.specs.declared.study.Bus.{Bus}
+use Rattle.network.specs.declared.study.Source.{Source}
+use Rattle.network.specs.declared.study.Study.{Study}
+use Rattle.network.specs.declared.additions.Addition.{Addition}
+use Rattle.network.specs.declared.additions.Entry.{Entry}
+use Rattle.network.specs.Network.{Network, network}
+use Rattle.network.specs.Grounds.{busNumber, afterBusIn, afterBus, sourceNumber, afterSourceIn, afterSource}
+use Rattle.network.specs.Additions.{additionNumber, afterAddition, AddedNetwork, addedFrom}
+use Rattle.network.specs.laws.Acceptance.{bus-room, source-room, granted}
+use Rattle.network.proofs.Lists.{below-count, appended}
+
+-- an accepted bus found room, so that the store stays in the array and the list has the record at its end
+module _ (s : Study) (b : Bus) (whole : length (s .buses) ≡ maxBuses) (z : busNumber (network s) b ≡ 0) where
+  pub bus-fits : s .«bus_count» < maxBuses
+  bus-fits = below-count maxBuses (s .«bus_count») (s .buses) whole (bus-room (network s) b z)
+
+  pub bus-stored : network (record {
+    tolerance = s .tolerance;
+    closed = s .closed;
+    «bus_count» = s .«bus_count» + 1;
+    buses = set (s .buses) (s .«bus_count») b;
+    «source_count» = s .«source_count»;
+    sources = s .sources;
+  }) ≡ afterBus (network s) b
+  unfolding afterBusIn
+  bus-stored = rw (appended maxBuses (s .«bus_count») (s .buses) whole b bus-fits) (sym (granted _ _ _ z))
+
+-- and so did an accepted source
+module _ (s : Study) (p : Source) (whole : length (s .sources) ≡ maxSources) (z : sourceNumber (network s) p ≡ 0) where
+  pub source-fits : s .«source_count» < maxSources
+  source-fits = below-count maxSources (s .«source_count») (s .sources) whole (source-room (network s) p z)
+
+  pub source-stored : network (record {
+    tolerance = s .tolerance;
+    closed = s .closed;
+    «bus_count» = s .«bus_count»;
+    buses = s .buses;
+    «source_count» = s .«source_count» + 1;
+    sources = set (s .sources) (s .«source_count») p;
+  }) ≡ afterSource (network s) p
+  unfolding afterSourceIn
+  source-stored = rw (appended maxSources (s .«source_count») (s .sources) whole p source-fits) (sym (granted _ _ _ z))
+
+-- the addition at place i of those that are counted
+module _ (count : ℕ) (entries : List Entry) (i : ℕ) (n : Network) (d : Entry) (a : Addition) (h : i < length (take count entries)) (e : getD entries i d .addition ≡ a) where
+  next : drop i (take count entries) ≡ getD entries i d ∷ drop (i + 1) (take count entries)
+  next =
+      let same = getD-take count entries i d (omega (arith, length-take count entries)) in
+      rw (add-one, ← same) (drop-cons (take count entries) i d h)
+
+  pub addition-accepted : additionNumber n a ≡ 0 → addedFrom i n (drop i (take count entries)) ≡ addedFrom (i + 1) (afterAddition n a) (drop (i + 1) (take count entries))
+  unfolding addedFrom
+  addition-accepted z = rw (next, e, z)
+
+  pub addition-refused : (k : ℕ) → k ≡ additionNumber n a → (k ≡ 0 → ⊥) → addedFrom i n (drop i (take count entries)) ≡ record { number = k; count = i; network = n }
+  unfolding addedFrom
+  addition-refused k z r = rw (next, e, ← z, ne-eqb k 0 r)
+
+pub additions-end : (l : List Entry) (i : ℕ) (n : Network) → length l ≤ i → addedFrom i n (drop i l) ≡ record { number = 0; count = i; network = n }
+unfolding addedFrom
+additions-end l i n h = rw (drop-of-length-le l h)

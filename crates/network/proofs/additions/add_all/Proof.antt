@@ -1,0 +1,173 @@
+-- `add_all` meets its contract. The invariant: the additions that are left come to what all of them come to.
+use mathlib.Core.Path.{_≡_, refl, sym, _∙_, ap}
+use Prim.Native.Nat.{_+_, _-_, _≤_, _<_}
+use native.Mathlib.Omega.{arith}
+use borrow.Author.Needs.{needs}
+use lib.ListN.{length, drop, length-set}
+use Rattle.tree.specs.Limits.{maxBuses, maxSources}
+use Rattle.network.specs.Network.{Network, network}
+use Rattle.network.specs.declared.additions.Addition.the-variants.{OfBus, OfSource}
+use Rattle.network.specs.Additions.{maxAdditions, listed, addedFrom}
+use Rattle.network.proofs.Lists.{length-mapped, count-most}
+use Rattle.network.proofs.Adding.{bus-fits, bus-stored, source-fits, source-stored, addition-accepted, addition-refused, additions-end}
+use Rattle.network.proofs.additions.add_all.Statement.{statement}
+use Rattle.network.proofs.additions.add_all.Tie as tie
+
+abbrev Inv-loop : tie.InvT-loop
+Inv-loop more total study₀ i₀ study i =
+    (i ≤ total) × (length (study .buses) ≡ maxBuses) × (length (study .sources) ≡ maxSources)
+    × (addedFrom 0 (network study₀) (listed more) ≡ addedFrom i (network study) (drop i (listed more)))
+
+abbrev μ-loop : tie.MeasureT-loop
+μ-loop more total study₀ i₀ study i = total - i
+
+total-of-requires : tie.Need-total-of-requires Inv-loop μ-loop
+total-of-requires c κs = search needs
+
+loop-holds : tie.Need-loop-holds Inv-loop μ-loop
+loop-holds c =
+    let a = c .before .args in
+    let buses : length (a .s .buses) ≡ maxBuses = search (needs, length-mapped) in
+    let sources : length (a .s .sources) ≡ maxSources = search (needs, length-mapped) in
+    (omega arith, buses, sources, refl)
+
+-- there is a record at the place of a turn
+inside : (c : tie.In-loop Inv-loop μ-loop) → (c .before .loop .i < length (listed (c .before .before .before .args .t2))) × (c .before .loop .i < maxAdditions)
+inside c =
+    let more = c .before .before .before .args .t2 in
+    let whole : length (more .entries) ≡ maxAdditions = search (needs, length-mapped) in
+    (omega (arith, c .before .before .total-of .ensures), omega (arith, c .before .before .total-of .ensures, count-most maxAdditions (more .count) (more .entries) whole))
+
+mul-entry : tie.Need-mul-entry Inv-loop μ-loop
+mul-entry c = let h = inside c .1 in record { fits = omega arith }
+
+element-copy-out-entry : tie.Need-element-copy-out-entry Inv-loop μ-loop
+element-copy-out-entry c = inside c .1
+
+add-next : tie.Need-add-next Inv-loop μ-loop
+add-next c = let h = inside (c .before) .1 in record { fits = omega arith }
+
+enum-known-addition : tie.Need-enum-known-addition Inv-loop μ-loop
+enum-known-addition c = search needs
+
+bus-number-requires : tie.Need-bus-number-requires Inv-loop μ-loop
+bus-number-requires c κs = search needs
+
+returns : tie.Need-returns Inv-loop μ-loop
+returns c =
+    let l = c .before .before .before .before .before .before .before .loop in
+    let more = c .before .before .before .before .before .before .before .before .before .args .t2 in
+    let h = inside (c .before .before .before .before .before .before) .0 in
+    let refusal = addition-refused (more .count) (more .entries) (l .i) (network (l .study)) _ _ h (c .before .before .before .addition .given .1) in
+    sym (l .inv .3 ∙ refusal _ (c .before .bus-number .ensures) (c .if1 .taken))
+
+-- an accepted bus found room
+bus-few : (c : tie.Else1 Inv-loop μ-loop) → c .before .before .before .before .before .before .before .loop .study .«bus_count» < maxBuses
+bus-few c =
+    let l = c .before .before .before .before .before .before .before .loop in
+    bus-fits (l .study) _ (l .inv .1) (sym (c .before .bus-number .ensures) ∙ c .if1 .left)
+
+mul-b : tie.Need-mul-b Inv-loop μ-loop
+mul-b c = let k = bus-few c in record { fits = omega arith }
+
+element-set-from-b : tie.Need-element-set-from-b Inv-loop μ-loop
+element-set-from-b c = bus-few c
+
+add-study : tie.Need-add-study Inv-loop μ-loop
+add-study c = let k = bus-few c in record { fits = omega arith }
+
+enum-known-addition-2 : tie.Need-enum-known-addition-2 Inv-loop μ-loop
+enum-known-addition-2 c = search needs
+
+source-number-requires : tie.Need-source-number-requires Inv-loop μ-loop
+source-number-requires c κs = search needs
+
+returns-2 : tie.Need-returns-2 Inv-loop μ-loop
+returns-2 c =
+    let l = c .before .before .before .before .before .before .before .loop in
+    let more = c .before .before .before .before .before .before .before .before .before .args .t2 in
+    let h = inside (c .before .before .before .before .before .before) .0 in
+    let refusal = addition-refused (more .count) (more .entries) (l .i) (network (l .study)) _ _ h (c .before .before .before .addition2 .given .1) in
+    sym (l .inv .3 ∙ refusal _ (c .before .source-number .ensures) (c .if2 .taken))
+
+-- an accepted source found room
+source-few : (c : tie.Else2 Inv-loop μ-loop) → c .before .before .before .before .before .before .before .loop .study .«source_count» < maxSources
+source-few c =
+    let l = c .before .before .before .before .before .before .before .loop in
+    source-fits (l .study) _ (l .inv .2) (sym (c .before .source-number .ensures) ∙ c .if2 .left)
+
+mul-p : tie.Need-mul-p Inv-loop μ-loop
+mul-p c = let k = source-few c in record { fits = omega arith }
+
+element-set-from-p : tie.Need-element-set-from-p Inv-loop μ-loop
+element-set-from-p c = source-few c
+
+add-study-2 : tie.Need-add-study-2 Inv-loop μ-loop
+add-study-2 c = let k = source-few c in record { fits = omega arith }
+
+loop-less : tie.Need-loop-less Inv-loop μ-loop
+loop-less c = omega arith
+
+loop-again : tie.Need-loop-again Inv-loop μ-loop
+loop-again c =
+    let l = c .before .before .before .before .before .before .before .loop in
+    let more = c .before .before .before .before .before .before .before .before .before .args .t2 in
+    let h = inside (c .before .before .before .before .before .before) .0 in
+    let z = sym (c .before .bus-number .ensures) ∙ c .if1 .left in
+    let acceptance = addition-accepted (more .count) (more .entries) (l .i) (network (l .study)) _ _ h (c .before .before .before .addition .given .1) z in (
+      omega arith,
+      length-set (l .study .buses) (l .study .«bus_count») (c .before .before .before .addition .given .0 .0) ∙ l .inv .1,
+      l .inv .2,
+      l .inv .3 ∙ acceptance ∙ ap (λ (n : Network). addedFrom (l .i + 1) n (drop (l .i + 1) (listed more))) (sym (bus-stored (l .study) _ (l .inv .1) z)),
+    )
+
+loop-less-2 : tie.Need-loop-less-2 Inv-loop μ-loop
+loop-less-2 c = omega arith
+
+loop-again-2 : tie.Need-loop-again-2 Inv-loop μ-loop
+loop-again-2 c =
+    let l = c .before .before .before .before .before .before .before .loop in
+    let more = c .before .before .before .before .before .before .before .before .before .args .t2 in
+    let h = inside (c .before .before .before .before .before .before) .0 in
+    let z = sym (c .before .source-number .ensures) ∙ c .if2 .left in
+    let acceptance = addition-accepted (more .count) (more .entries) (l .i) (network (l .study)) _ _ h (c .before .before .before .addition2 .given .1) z in (
+      omega arith,
+      l .inv .1,
+      length-set (l .study .sources) (l .study .«source_count») (c .before .before .before .addition2 .given .0 .0) ∙ l .inv .2,
+      l .inv .3 ∙ acceptance ∙ ap (λ (n : Network). addedFrom (l .i + 1) n (drop (l .i + 1) (listed more))) (sym (source-stored (l .study) _ (l .inv .2) z)),
+    )
+
+returns-3 : tie.Need-returns-3 Inv-loop μ-loop
+returns-3 c =
+    let l = c .before .loop in
+    let more = c .before .before .before .args .t2 in
+    sym (l .inv .3 ∙ additions-end (listed more) (l .i) (network (l .study)) (omega (arith, c .before .before .total-of .ensures)))
+
+pub add-all-spec : {M : Type 1} → statement M
+add-all-spec =
+    tie.close
+    (tie.spec
+    Inv-loop
+    μ-loop
+    total-of-requires
+    loop-holds
+    mul-entry
+    element-copy-out-entry
+    add-next
+    enum-known-addition
+    bus-number-requires
+    returns
+    mul-b
+    element-set-from-b
+    add-study
+    enum-known-addition-2
+    source-number-requires
+    returns-2
+    mul-p
+    element-set-from-p
+    add-study-2
+    loop-less
+    loop-again
+    loop-less-2
+    loop-again-2
+    returns-3)

@@ -1,0 +1,96 @@
+// Several additions in one call. A study goes into a call and comes out by value, so that one call for each record copies it for each.
+ghost use mathlib.Core.Path.{_≡_};
+ghost use lib.ListN.{length};
+ghost use Rattle.network.specs.Network.{network};
+ghost use Rattle.network.specs.Additions.{listed, addedNetwork, addedFrom};
+use crate::calls::bus_number;
+use crate::calls::source_number;
+use crate::study::Bus;
+use crate::study::Source;
+use crate::study::Study;
+
+// The additions that one call has room for.
+pub const ADDITIONS: usize = 32;
+
+// A record that is to be added.
+pub enum Addition {
+    OfBus(Bus),
+    OfSource(Source),
+}
+
+// A place for one: an array in a struct holds structs.
+pub struct Entry {
+    pub addition: Addition,
+}
+
+// Additions in order: the first of them, as many as are counted.
+pub struct Additions {
+    pub count: usize,
+    pub entries: [Entry; ADDITIONS],
+}
+
+// What they come to: the number of the first that is refused, 0 where none is, how many are accepted before it, and the study after
+// these.
+pub struct Added {
+    pub number: u32,
+    pub count: usize,
+    pub study: Study,
+}
+
+// How many additions there are.
+fn total_of(more: Additions) -> usize
+    ensures { λ r. ⌜ r ≡ length (listed more) ⌝ }
+{
+    if more.count < ADDITIONS {
+        return more.count;
+    }
+    ADDITIONS
+}
+
+// The study with records more, one after the other as `add_bus` and `add_source` take them, up to the first that is refused.
+pub fn add_all(s: Study, more: Additions) -> Added
+    ensures { λ r. ⌜ addedNetwork r ≡ addedFrom 0 (network s) (listed more) ⌝ }
+{
+    let total = total_of(more);
+    let mut study = s;
+    let mut i: usize = 0;
+    while i < total {
+        let entry = more.entries[i];
+        let next = i + 1;
+        let addition = entry.addition;
+        match addition {
+            Addition::OfBus(b) => {
+                let number = bus_number(study, b);
+                if number != 0 {
+                    return Added {
+                        number,
+                        count: i,
+                        study,
+                    };
+                }
+                let n = study.bus_count;
+                study.buses[n] = b;
+                study.bus_count = n + 1;
+            }
+            Addition::OfSource(p) => {
+                let number = source_number(study, p);
+                if number != 0 {
+                    return Added {
+                        number,
+                        count: i,
+                        study,
+                    };
+                }
+                let n = study.source_count;
+                study.sources[n] = p;
+                study.source_count = n + 1;
+            }
+        }
+        i = next;
+    }
+    Added {
+        number: 0,
+        count: i,
+        study,
+    }
+}
