@@ -10,7 +10,7 @@ use Rattle.network.specs.declared.additions.Added.{Added}
 use Rattle.network.specs.declared.additions.Additions.{Additions}
 use Rattle.network.specs.declared.additions.Entry.{Entry}
 use Rattle.network.specs.Network.{Network, network}
-use Rattle.network.specs.Grounds.{busNumber, afterBus, sourceNumber, afterSource}
+use Rattle.network.specs.Grounds.{busNumber, afterBus, sourceNumber, afterSource, Call, addingBus, addingSource}
 
 -- the additions that one call has room for
 abbrev pub maxAdditions : ℕ
@@ -24,6 +24,14 @@ additionNumber n (OfSource p) = sourceNumber n p
 abbrev pub afterAddition : Network → Addition → Network
 afterAddition n (OfBus b) = afterBus n b
 afterAddition n (OfSource p) = afterSource n p
+
+-- and the call that makes it
+abbrev pub addingOf : Addition → Call
+addingOf (OfBus b) = addingBus b
+addingOf (OfSource p) = addingSource p
+
+abbrev pub called : Entry → Call
+called e = addingOf (e .addition)
 
 -- the additions that are counted, at most all that there is room for
 abbrev pub listed : Additions → List Entry

@@ -4,6 +4,7 @@ pub mod SourceKinds
 pub mod Ways
 pub mod Each
 pub mod Acceptance
+pub mod Additions
 pub mod Rebuilt
 pub mod SourcesChanged
 pub mod AcceptedRecords

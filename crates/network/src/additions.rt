@@ -1,13 +1,16 @@
 // Several additions in one call. A study goes into a call and comes out by value, so that one call for each record copies it for each.
 ghost use mathlib.Core.Path.{_≡_};
-ghost use lib.ListN.{length};
+ghost use mathlib.Core.List.{map};
+ghost use lib.ListN.{length, take};
 ghost use Rattle.network.specs.Network.{network};
-ghost use Rattle.network.specs.Additions.{listed, addedNetwork, addedFrom};
+ghost use Rattle.network.specs.Additions.{maxAdditions, listed, addedNetwork, addedFrom, called};
+ghost use Rattle.network.specs.Grounds.{runFrom};
 use crate::calls::bus_number;
 use crate::calls::source_number;
 use crate::study::Bus;
 use crate::study::Source;
 use crate::study::Study;
+use crate::study::blank_bus;
 
 // The additions that one call has room for.
 pub const ADDITIONS: usize = 32;
@@ -37,6 +40,19 @@ pub struct Added {
     pub study: Study,
 }
 
+// No addition yet.
+pub fn no_additions() -> Additions
+    ensures { λ r. ⌜ (r .count ≡ 0) × (length (r .entries) ≡ maxAdditions) ⌝ }
+{
+    let blank = blank_bus();
+    let addition = Addition::OfBus(blank);
+    let entry = Entry { addition };
+    Additions {
+        count: 0,
+        entries: [entry; ADDITIONS],
+    }
+}
+
 // How many additions there are.
 fn total_of(more: Additions) -> usize
     ensures { λ r. ⌜ r ≡ length (listed more) ⌝ }
@@ -47,9 +63,11 @@ fn total_of(more: Additions) -> usize
     ADDITIONS
 }
 
-// The study with records more, one after the other as `add_bus` and `add_source` take them, up to the first that is refused.
+// The study with records more, one after the other as `add_bus` and `add_source` take them, up to the first that is refused. By the clause
+// `calls` it is the study after those calls.
 pub fn add_all(s: Study, more: Additions) -> Added
-    ensures { λ r. ⌜ addedNetwork r ≡ addedFrom 0 (network s) (listed more) ⌝ }
+    ensures added { λ r. ⌜ addedNetwork r ≡ addedFrom 0 (network s) (listed more) ⌝ }
+    ensures calls { λ r. ⌜ network (r .study) ≡ runFrom (network s) (map called (take (r .count) (listed more))) ⌝ }
 {
     let total = total_of(more);
     let mut study = s;

@@ -1,13 +1,17 @@
 -- `add_all` meets its contract. The invariant: the additions that are left come to what all of them come to.
 use mathlib.Core.Path.{_≡_, refl, sym, _∙_, ap}
-use Prim.Native.Nat.{_+_, _-_, _≤_, _<_}
+use mathlib.Core.List.{List, map}
+use Prim.Native.Nat.{ℕ, _+_, _-_, _≤_, _<_}
 use native.Mathlib.Omega.{arith}
 use borrow.Author.Needs.{needs}
-use lib.ListN.{length, drop, length-set}
+use lib.ListN.{length, take, drop, length-set}
 use Rattle.tree.specs.Limits.{maxBuses, maxSources}
 use Rattle.network.specs.Network.{Network, network}
 use Rattle.network.specs.declared.additions.Addition.the-variants.{OfBus, OfSource}
-use Rattle.network.specs.Additions.{maxAdditions, listed, addedFrom}
+use Rattle.network.specs.declared.additions.Entry.{Entry}
+use Rattle.network.specs.Grounds.{runFrom}
+use Rattle.network.specs.Additions.{maxAdditions, listed, AddedNetwork, addedFrom, called}
+use Rattle.network.specs.laws.Additions.{added-run}
 use Rattle.network.proofs.Lists.{length-mapped, count-most}
 use Rattle.network.proofs.Adding.{bus-fits, bus-stored, source-fits, source-stored, addition-accepted, addition-refused, additions-end}
 use Rattle.network.proofs.additions.add_all.Statement.{statement}
@@ -53,13 +57,22 @@ enum-known-addition c = search needs
 bus-number-requires : tie.Need-bus-number-requires Inv-loop μ-loop
 bus-number-requires c κs = search needs
 
+-- both clauses, from what all additions come to
+answered : (n : Network) (es : List Entry) {k i : ℕ} {m : Network} → addedFrom 0 n es ≡ record { number = k; count = i; network = m }
+    → (record { number = k; count = i; network = m } ≡ addedFrom 0 n es) × (m ≡ runFrom n (map called (take i es)))
+answered n es {k} {i} e =
+    let none : i - 0 ≡ i = omega arith in
+    let ran = sym (ap (λ (a : AddedNetwork). a .network) e) ∙ added-run 0 n es ∙ ap (λ (a : AddedNetwork). runFrom n (map called (take (a .count - 0) es))) e in
+    (sym e, rw none at ran)
+
 returns : tie.Need-returns Inv-loop μ-loop
 returns c =
     let l = c .before .before .before .before .before .before .before .loop in
-    let more = c .before .before .before .before .before .before .before .before .before .args .t2 in
+    let a = c .before .before .before .before .before .before .before .before .before .args in
+    let more = a .t2 in
     let h = inside (c .before .before .before .before .before .before) .0 in
     let refusal = addition-refused (more .count) (more .entries) (l .i) (network (l .study)) _ _ h (c .before .before .before .addition .given .1) in
-    sym (l .inv .3 ∙ refusal _ (c .before .bus-number .ensures) (c .if1 .taken))
+    answered (network (a .s)) (listed more) (l .inv .3 ∙ refusal _ (c .before .bus-number .ensures) (c .if1 .taken))
 
 -- an accepted bus found room
 bus-few : (c : tie.Else1 Inv-loop μ-loop) → c .before .before .before .before .before .before .before .loop .study .«bus_count» < maxBuses
@@ -85,10 +98,11 @@ source-number-requires c κs = search needs
 returns-2 : tie.Need-returns-2 Inv-loop μ-loop
 returns-2 c =
     let l = c .before .before .before .before .before .before .before .loop in
-    let more = c .before .before .before .before .before .before .before .before .before .args .t2 in
+    let a = c .before .before .before .before .before .before .before .before .before .args in
+    let more = a .t2 in
     let h = inside (c .before .before .before .before .before .before) .0 in
     let refusal = addition-refused (more .count) (more .entries) (l .i) (network (l .study)) _ _ h (c .before .before .before .addition2 .given .1) in
-    sym (l .inv .3 ∙ refusal _ (c .before .source-number .ensures) (c .if2 .taken))
+    answered (network (a .s)) (listed more) (l .inv .3 ∙ refusal _ (c .before .source-number .ensures) (c .if2 .taken))
 
 -- an accepted source found room
 source-few : (c : tie.Else2 Inv-loop μ-loop) → c .before .before .before .before .before .before .before .loop .study .«source_count» < maxSources
@@ -140,8 +154,9 @@ loop-again-2 c =
 returns-3 : tie.Need-returns-3 Inv-loop μ-loop
 returns-3 c =
     let l = c .before .loop in
-    let more = c .before .before .before .args .t2 in
-    sym (l .inv .3 ∙ additions-end (listed more) (l .i) (network (l .study)) (omega (arith, c .before .before .total-of .ensures)))
+    let a = c .before .before .before .args in
+    let more = a .t2 in
+    answered (network (a .s)) (listed more) (l .inv .3 ∙ additions-end (listed more) (l .i) (network (l .study)) (omega (arith, c .before .before .total-of .ensures)))
 
 pub add-all-spec : {M : Type 1} → statement M
 add-all-spec =

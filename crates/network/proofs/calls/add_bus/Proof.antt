@@ -1,13 +1,13 @@
--- `add_bus` meets its contract. An accepted record found room, so that the store stays in the array and the list has it at its end.
+-- `add_bus` meets its contract. An accepted record found room, and what is stored of it is the addition.
 use mathlib.Core.Path.{_≡_, refl, sym, _∙_}
 use Prim.Native.Nat.{_<_}
 use native.Mathlib.Omega.{arith}
 use lib.ListN.{length}
-use Rattle.network.specs.Network.{network}
 use Rattle.tree.specs.Limits.{maxBuses}
 use Rattle.network.specs.Grounds.{afterBusIn}
-use Rattle.network.specs.laws.Acceptance.{bus-room, refused, granted}
-use Rattle.network.proofs.Lists.{length-mapped, below-count, appended}
+use Rattle.network.specs.laws.Acceptance.{refused}
+use Rattle.network.proofs.Lists.{length-mapped}
+use Rattle.network.proofs.Adding.{bus-fits, bus-stored}
 use borrow.Author.Needs.{needs}
 use Rattle.network.proofs.calls.add_bus.Statement.{statement}
 use Rattle.network.proofs.calls.add_bus.Tie as tie
@@ -15,12 +15,11 @@ use Rattle.network.proofs.calls.add_bus.Tie as tie
 bus-number-requires : tie.Need-bus-number-requires
 bus-number-requires c κs = search needs
 
--- an accepted record found room
 few : (c : tie.Else1) → c .before .before .args .s .«bus_count» < maxBuses
 few c =
     let a = c .before .before .args in
     let h : length (a .s .buses) ≡ maxBuses = search (needs, length-mapped) in
-    below-count maxBuses (a .s .«bus_count») (a .s .buses) h (bus-room (network (a .s)) (a .b) (sym (c .before .bus-number .ensures) ∙ c .if1 .left))
+    bus-fits (a .s) (a .b) h (sym (c .before .bus-number .ensures) ∙ c .if1 .left)
 
 returns : tie.Need-returns
 unfolding afterBusIn
@@ -38,17 +37,11 @@ add-next : tie.Need-add-next
 add-next c = let k = few c in record { fits = omega arith }
 
 returns-2 : tie.Need-returns-2
-unfolding afterBusIn
 returns-2 c =
     let a = c .before .before .args in
-    let e = sym (c .before .bus-number .ensures) ∙ c .if1 .left in
-    let h : length (a .s .buses) ≡ maxBuses = search (needs, length-mapped) in (
-      c .before .bus-number .ensures,
-      (
-        λ z. absurd (z (c .if1 .left)),
-        rw (appended maxBuses (a .s .«bus_count») (a .s .buses) h (a .b) (few c)) (sym (granted _ _ _ e)),
-      ),
-    )
+    let e = c .before .bus-number .ensures in
+    let h : length (a .s .buses) ≡ maxBuses = search (needs, length-mapped) in
+    (e, (λ z. absurd (z (c .if1 .left)), bus-stored (a .s) (a .b) h (sym e ∙ c .if1 .left)))
 
 pub add-bus-spec : {M : Type 1} → statement M
 add-bus-spec =

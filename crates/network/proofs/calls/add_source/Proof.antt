@@ -1,13 +1,13 @@
--- `add_source` meets its contract. An accepted record found room, so that the store stays in the array and the list has it at its end.
+-- `add_source` meets its contract. An accepted record found room, and what is stored of it is the addition.
 use mathlib.Core.Path.{_≡_, refl, sym, _∙_}
 use Prim.Native.Nat.{_<_}
 use native.Mathlib.Omega.{arith}
 use lib.ListN.{length}
-use Rattle.network.specs.Network.{network}
 use Rattle.tree.specs.Limits.{maxSources}
 use Rattle.network.specs.Grounds.{afterSourceIn}
-use Rattle.network.specs.laws.Acceptance.{source-room, refused, granted}
-use Rattle.network.proofs.Lists.{length-mapped, below-count, appended}
+use Rattle.network.specs.laws.Acceptance.{refused}
+use Rattle.network.proofs.Lists.{length-mapped}
+use Rattle.network.proofs.Adding.{source-fits, source-stored}
 use borrow.Author.Needs.{needs}
 use Rattle.network.proofs.calls.add_source.Statement.{statement}
 use Rattle.network.proofs.calls.add_source.Tie as tie
@@ -15,12 +15,11 @@ use Rattle.network.proofs.calls.add_source.Tie as tie
 source-number-requires : tie.Need-source-number-requires
 source-number-requires c κs = search needs
 
--- an accepted record found room
 few : (c : tie.Else1) → c .before .before .args .s .«source_count» < maxSources
 few c =
     let a = c .before .before .args in
     let h : length (a .s .sources) ≡ maxSources = search (needs, length-mapped) in
-    below-count maxSources (a .s .«source_count») (a .s .sources) h (source-room (network (a .s)) (a .p) (sym (c .before .source-number .ensures) ∙ c .if1 .left))
+    source-fits (a .s) (a .p) h (sym (c .before .source-number .ensures) ∙ c .if1 .left)
 
 returns : tie.Need-returns
 unfolding afterSourceIn
@@ -38,17 +37,11 @@ add-next : tie.Need-add-next
 add-next c = let k = few c in record { fits = omega arith }
 
 returns-2 : tie.Need-returns-2
-unfolding afterSourceIn
 returns-2 c =
     let a = c .before .before .args in
-    let e = sym (c .before .source-number .ensures) ∙ c .if1 .left in
-    let h : length (a .s .sources) ≡ maxSources = search (needs, length-mapped) in (
-      c .before .source-number .ensures,
-      (
-        λ z. absurd (z (c .if1 .left)),
-        rw (appended maxSources (a .s .«source_count») (a .s .sources) h (a .p) (few c)) (sym (granted _ _ _ e)),
-      ),
-    )
+    let e = c .before .source-number .ensures in
+    let h : length (a .s .sources) ≡ maxSources = search (needs, length-mapped) in
+    (e, (λ z. absurd (z (c .if1 .left)), source-stored (a .s) (a .p) h (sym e ∙ c .if1 .left)))
 
 pub add-source-spec : {M : Type 1} → statement M
 add-source-spec =
