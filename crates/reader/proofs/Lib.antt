@@ -1,4 +1,5 @@
 mod Bytes
 mod Gathering
 mod Records
+mod PartRows
 mod Taking

@@ -18,22 +18,26 @@ rows-first : (l : List ℕ) → 0 < length l → rows l ≡ stretch atCrlf l ∷
 rows-first [] h = absurd (omega arith)
 rows-first (b ∷ bs) h = rows-step b bs
 
--- the row that begins at a place, what it says, and the rows after its CRLF
-module _ (text : List ℕ) (at end i : ℕ) (n : Network) (said : Row) (h : at < length text) (e : end ≡ at + before atCrlf (drop at text)) (s : said ≡ rowOf (eqb i 0) (take (end - at) (drop at text))) where
-  next : rows (drop at text) ≡ take (end - at) (drop at text) ∷ rows (drop (end + 2) text)
+-- ---- the row that begins at a place, and the rows behind its CRLF
+module _ (text : List ℕ) (at end : ℕ) (h : at < length text) (e : end ≡ at + before atCrlf (drop at text)) where
+  abbrev row : List ℕ
+  row = take (end - at) (drop at text)
+
+  pub next : rows (drop at text) ≡ row ∷ rows (drop (end + 2) text)
   next =
       let k = before atCrlf (drop at text) in
       let w : end - at ≡ k = omega arith in
       let later : at + (k + 2) ≡ end + 2 = omega arith in
       rw (rows-first (drop at text) (omega (arith, length-drop at text)), drop-drop (k + 2) at text, w, later)
 
-  pub row-accepted : rowNumber n said ≡ 0 → readFrom i n (rows (drop at text)) ≡ readFrom (i + 1) (afterRow n said) (rows (drop (end + 2) text))
-  unfolding readFromIn
-  row-accepted z = rw (next, ← s, z)
+  module _ (i : ℕ) (n : Network) where
+    pub row-accepted : (said : Row) → said ≡ rowOf (eqb i 0) row → rowNumber n said ≡ 0 → readFrom i n (rows (drop at text)) ≡ readFrom (i + 1) (afterRow n said) (rows (drop (end + 2) text))
+    unfolding readFromIn
+    row-accepted said s z = rw (next, ← s, z)
 
-  pub row-refused : (k : ℕ) → k ≡ rowNumber n said → (k ≡ 0 → ⊥) → readFrom i n (rows (drop at text)) ≡ refusedAt k (i + 1)
-  unfolding readFromIn
-  row-refused k z r = rw (next, ← s, ← z, ne-eqb k 0 r)
+    pub row-refused : (said : Row) → said ≡ rowOf (eqb i 0) row → (k : ℕ) → k ≡ rowNumber n said → (k ≡ 0 → ⊥) → readFrom i n (rows (drop at text)) ≡ refusedAt k (i + 1)
+    unfolding readFromIn
+    row-refused said s k z r = rw (next, ← s, ← z, ne-eqb k 0 r)
 
 pub rows-end : (text : List ℕ) (at i : ℕ) (n : Network) → length text ≤ at → readFrom i n (rows (drop at text)) ≡ closeAfter i n
 unfolding readFromIn

@@ -2,4 +2,5 @@
 pub mod File
 pub mod Stretches
 pub mod Gathered
+pub mod Parts
 pub mod laws

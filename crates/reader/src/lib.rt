@@ -1,23 +1,23 @@
 // From the text of a file to a study: rows, fields, numbers, records.
 ghost use mathlib.Core.Path.{_≡_};
-ghost use Prim.Native.Nat.{_≤_};
-ghost use lib.ListN.{length};
+ghost use Prim.Native.Nat.{_+_, _≤_};
+ghost use lib.ListN.{length, drop};
 ghost use Rattle.network.specs.Network.{network};
 ghost use Rattle.network.specs.Grounds.{emptyNetwork, run};
-ghost use Rattle.reader.specs.File.{maxBytes, rows, rowNumber, afterRow, outcomeOf, refusedAt, closeAfter, readFrom, readOf, callsRead};
+ghost use Rattle.reader.specs.File.{maxBytes, rows, outcomeOf, refusedAt, closeAfter, readFrom, readOf, callsRead};
 
 mod fields;
+mod parts;
 mod rows;
 
 pub use fields::numbers_of;
-use network::calls::Answer;
-use network::calls::add_bus;
-use network::calls::add_source;
+use network::additions::add_all;
 use network::calls::close;
 use network::calls::start;
 use network::study::Bus;
 use network::study::Source;
 use network::study::Study;
+use parts::part_of;
 pub use rows::bus_count_ok;
 pub use rows::bus_of;
 use rows::row_end;
@@ -64,22 +64,6 @@ pub struct Reading {
     pub study: Study,
 }
 
-// The call that a row stands for. Refused: 16 where the row says nothing, else as the call is.
-fn take_row(s: Study, row: Row) -> Answer
-    ensures number { λ r. ⌜ r .number ≡ rowNumber (network s) row ⌝ }
-    ensures network { λ r. ⌜ network (r .study) ≡ afterRow (network s) row ⌝ }
-{
-    match row {
-        Row::Start(t) => start(t),
-        Row::WithBus(b) => add_bus(s, b),
-        Row::WithSource(p) => add_source(s, p),
-        Row::Malformed => Answer {
-            number: 16,
-            study: s,
-        },
-    }
-}
-
 // A refused text leaves an empty open study of tolerance 6.
 fn refused(number: u32, row: u32) -> Reading
     ensures { λ r. ⌜ outcomeOf r ≡ refusedAt number row ⌝ }
@@ -105,27 +89,48 @@ fn closed_after(row: u32, s: Study) -> Reading
     }
 }
 
-// The rows of a text taken in order, up to the first that is refused.
-fn read_rows(text: &[u8]) -> Reading
+// The rows behind the first, `begun`'s, added part by part up to the first that is refused.
+fn read_records(text: &[u8], from: usize, begun: Study) -> Reading
     requires { ⌜ length (now text) ≤ maxBytes ⌝ }
-    ensures { λ r. ⌜ outcomeOf r ≡ readFrom 0 emptyNetwork (rows (now (text .entry))) ⌝ }
+    requires { ⌜ (1 ≤ from) × (from ≤ length (now text) + 2) ⌝ }
+    ensures { λ r. ⌜ outcomeOf r ≡ readFrom 1 (network begun) (rows (drop from (now (text .entry)))) ⌝ }
 {
-    let empty = start(6);
-    let mut study = empty.study;
-    let mut row: u32 = 0;
-    let mut at: usize = 0;
+    let mut study = begun;
+    let mut row: u32 = 1;
+    let mut at = from;
     while at < text.len() {
-        let end = row_end(text, at);
-        let said = row_of(row == 0, &text[at..end]);
-        let answer = take_row(study, said);
-        row += 1;
-        if answer.number != 0 {
-            return refused(answer.number, row);
+        let part = part_of(text, at);
+        let additions = part.additions;
+        let added = add_all(study, additions);
+        row += added.count as u32;
+        if added.number != 0 {
+            return refused(added.number, row + 1);
         }
-        study = answer.study;
-        at = end + 2;
+        if part.malformed {
+            return refused(16, row + 1);
+        }
+        study = added.study;
+        at = part.next;
     }
     closed_after(row, study)
+}
+
+// The rows of a text taken in order, up to the first that is refused.
+fn read_rows(text: &[u8]) -> Reading
+    requires { ⌜ (1 ≤ length (now text)) × (length (now text) ≤ maxBytes) ⌝ }
+    ensures { λ r. ⌜ outcomeOf r ≡ readFrom 0 emptyNetwork (rows (now (text .entry))) ⌝ }
+{
+    let end = row_end(text, 0);
+    let said = row_of(true, &text[..end]);
+    let Row::Start(tolerance) = said else {
+        return refused(16, 1);
+    };
+    let begun = start(tolerance);
+    if begun.number != 0 {
+        return refused(begun.number, 1);
+    }
+    let study = begun.study;
+    read_records(text, end + 2, study)
 }
 
 // The study that a text gives, closed, or the first ground on which it is refused, with the row. By the clause `calls` it is a study that

@@ -19,6 +19,7 @@ use Rattle.network.specs.laws.Tests.{by-test, both-true}
 use Rattle.reader.specs.declared.Row.{Row}
 use Rattle.reader.specs.declared.Row.the-variants.{Start, WithBus, WithSource, Malformed}
 use Rattle.reader.specs.File.{maxBytes, comma, letterS, letterB, letterP, busFields, sourceFields, rows, fields, allNumbers, amounts, recordOf, fieldsRow, rowOf, rowNumberIn, afterRowIn, Outcome, refusedAt, readFromIn, readIn}
+use Rattle.reader.specs.laws.RowLetters.{Begins, row-begins}
 use Rattle.reader.specs.laws.Editions.{Raised, lettered, tooMany, surplusAfter, firstSurplus, MetAt}
 
 -- ---- one record, tried by two editions
@@ -119,39 +120,6 @@ module _ (L M : Limits) (raised : Raised L M) where
       (λ t. rw t (rows-as-before 0 emptyNetwork (rows text) (rw t at e)))
       (λ t. rw t)
 
--- ---- the letter that a row begins with, by what it says
-abbrev Begins : Bool → List ℕ → Row → Type 0
-Begins top r (Start t) = (top ≡ true) × (getD r 0 0 ≡ letterS)
-Begins top r (WithBus b) = getD r 0 0 ≡ letterB
-Begins top r (WithSource p) = getD r 0 0 ≡ letterP
-Begins top r Malformed = Unit
-
-record-begins : (top : Bool) (letter : ℕ) (v r : List ℕ) → getD r 0 0 ≡ letter → Begins top r (recordOf top letter v)
-unfolding recordOf
-record-begins true letter v r e =
-    by-test (eqb letter letterS && eqb (length v) 1)
-    (λ t. rw t (refl, e ∙ eqb-true letter letterS (both-true (eqb letter letterS) (eqb (length v) 1) t .0)))
-    (λ t. rw t tt)
-record-begins false letter v r e =
-    by-test (eqb letter letterB && eqb (length v) busFields)
-    (λ t. rw t (e ∙ eqb-true letter letterB (both-true (eqb letter letterB) (eqb (length v) busFields) t .0)))
-    (λ t. rw t
-    (by-test (eqb letter letterP && eqb (length v) sourceFields)
-    (λ u. rw u (e ∙ eqb-true letter letterP (both-true (eqb letter letterP) (eqb (length v) sourceFields) u .0)))
-    (λ u. rw u tt)))
-
-row-begins : (top : Bool) (r : List ℕ) → Begins top r (rowOf top r)
-unfolding rowOf fieldsRow
-row-begins top [] = tt
-row-begins top (letter ∷ []) = tt
-row-begins top (letter ∷ b ∷ rest) =
-    by-test (eqb b comma)
-    (λ t. rw t
-    (by-test (allNumbers (fields rest))
-    (λ u. rw u (record-begins top letter (amounts (fields rest)) (letter ∷ b ∷ rest) refl))
-    (λ u. rw u tt)))
-    (λ t. rw t tt)
-
 -- ---- one row more
 lettered-more : (letter : ℕ) (before : List (List ℕ)) (r : List ℕ) → lettered letter (before ++ (r ∷ [])) ≡ lettered letter before + cond (eqb (getD r 0 0) letter) 1 0
 lettered-more letter [] r = omega arith
@@ -234,8 +202,8 @@ none-counted L = record { buses = refl; sources = refl; buses-fit = omega arith;
 row-counted : (L : Limits) (i : ℕ) (n : Network) (before : List (List ℕ)) (r : List ℕ) → i ≡ length before → Counted L n before
     → (said : Row) → Begins (eqb i 0) r said → rowNumberIn L n said ≡ 0 → Counted L (afterRowIn L n said) (before ++ (r ∷ []))
 row-counted L i n before r at c (Start t) q e = start-counted L n before r t (omega (arith, eqb-true i 0 (q .0))) (q .1)
-row-counted L i n before r at c (WithBus b) q e = bus-counted L n before r c b e (bus-room L n b e) q
-row-counted L i n before r at c (WithSource p) q e = source-counted L n before r c p e (source-room L n p e) q
+row-counted L i n before r at c (WithBus b) q e = bus-counted L n before r c b e (bus-room L n b e) (q .1)
+row-counted L i n before r at c (WithSource p) q e = source-counted L n before r c p e (source-room L n p e) (q .1)
 row-counted L i n before r at c Malformed q e = absurd (omega arith)
 
 -- ---- a file that an edition accepts has no surplus row for it
@@ -284,14 +252,14 @@ module _ (L M : Limits) (i : ℕ) (n : Network) (before : List (List ℕ)) (r : 
       (λ t. both-accept (WithBus b) is q (bus-also L M n b y (ltb-true _ _ t)) y)
       (λ t.
       let l = ltb-false (length (n .buses)) (L .buses) t in
-      one-refuses (WithBus b) is q 23 (bus-full L M n b y l) (inl refl) (λ z. omega arith) (buses-over L n before r c l q))
+      one-refuses (WithBus b) is q 23 (bus-full L M n b y l) (inl refl) (λ z. omega arith) (buses-over L n before r c l (q .1)))
   row-met (WithSource p) is q =
       let y = row-taken M i n r rs (WithSource p) is a in
       by-test (ltb (length (n .sources)) (L .sources))
       (λ t. both-accept (WithSource p) is q (source-also L M n p y (ltb-true _ _ t)) y)
       (λ t.
       let l = ltb-false (length (n .sources)) (L .sources) t in
-      one-refuses (WithSource p) is q 24 (source-full L M n p y l) (inr refl) (λ z. omega arith) (sources-over L n before r c l q))
+      one-refuses (WithSource p) is q 24 (source-full L M n p y l) (inr refl) (λ z. omega arith) (sources-over L n before r c l (q .1)))
   row-met Malformed is q = let z : _≡_ {A = ℕ} 16 0 = row-taken M i n r rs Malformed is a in absurd (omega arith)
 
 module _ (L M : Limits) where
