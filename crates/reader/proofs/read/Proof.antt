@@ -20,7 +20,7 @@ parts r text e =
     (ap (λ (x : Outcome). x .number) e, (ap (λ (x : Outcome). x .row) e, (n, n ∙ read-made text)))
 
 read-rows-requires : tie.Need-read-rows-requires
-read-rows-requires c κs = within-true (length (c .before .before .args .text .now)) 1 maxBytes (c .if1 .taken) .1
+read-rows-requires c κs = within-true (length (c .before .before .args .text .now)) 1 maxBytes (c .if1 .taken)
 
 returns : tie.Need-returns
 unfolding readIn
