@@ -4,6 +4,10 @@ use mathlib.Core.List.{List, [], _∷_, _++_, map}
 use Prim.Native.Nat.{ℕ, zero, suc, _+_, _≤_, _<_}
 use native.Mathlib.Omega.{arith}
 use native.Mathlib.Numerals.{add-one}
+use lib.Dec.{ltb}
+use borrow.Author.Tests.{ltb-true, ltb-false, lt-ltb, le-ltb}
+use mathlib.Core.Bool.{_&&_}
+use Rattle.network.specs.laws.Tests.{by-test}
 use lib.ListN.{length, take, set, getD, length-map, length-take, List·getD-eq-default}
 use lib.Seq.{take-suc-set, getD-take}
 
@@ -40,6 +44,16 @@ module _ {X : Type 0} (cap n : ℕ) (l : List X) (whole : length l ≡ cap) wher
 
   pub read-counted : (i : ℕ) (d : X) → i < length (take n l) → getD l i d ≡ getD (take n l) i d
   read-counted i d h = sym (getD-take n l i d (within-count i h))
+
+  -- the test whether a place is counted
+  pub counted-test : (i : ℕ) → ltb i (length (take n l)) ≡ ltb i n && ltb i cap
+  counted-test i =
+      by-test (ltb i n)
+      (λ t.
+      by-test (ltb i cap)
+      (λ u. rw (t, u) (lt-ltb i (length (take n l)) (omega (arith, length-take n l, ltb-true i n t, ltb-true i cap u))))
+      (λ u. rw (t, u) (le-ltb i (length (take n l)) (omega (arith, length-take n l, ltb-false i cap u)))))
+      (λ t. rw t (le-ltb i (length (take n l)) (omega (arith, length-take n l, ltb-false i n t))))
 
   -- past the count, and past the array, nothing is read
   pub past-count : (i : ℕ) (d : X) → n ≤ i → getD (take n l) i d ≡ d

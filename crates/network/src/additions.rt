@@ -7,10 +7,12 @@ ghost use Rattle.network.specs.Additions.{maxAdditions, listed, addedNet
 ghost use Rattle.network.specs.Grounds.{runFrom};
 use crate::calls::bus_number;
 use crate::calls::source_number;
+use crate::study::BUSES;
 use crate::study::Bus;
 use crate::study::Source;
 use crate::study::Study;
 use crate::study::blank_bus;
+use crate::study::place_in;
 
 // The additions that one call has room for.
 pub const ADDITIONS: usize = 32;
@@ -78,7 +80,8 @@ pub fn add_all(s: Study, more: Additions) -> Added
         let addition = entry.addition;
         match addition {
             Addition::OfBus(b) => {
-                let number = bus_number(study, b);
+                let buses = study.buses;
+                let number = bus_number(study.closed, buses, study.bus_count, b);
                 if number != 0 {
                     return Added {
                         number,
@@ -91,7 +94,11 @@ pub fn add_all(s: Study, more: Additions) -> Added
                 study.bus_count = n + 1;
             }
             Addition::OfSource(p) => {
-                let number = source_number(study, p);
+                let bus = p.bus as usize;
+                let place = place_in(bus);
+                let at = study.buses[place];
+                let there = (bus < study.bus_count) & (bus < BUSES);
+                let number = source_number(study.closed, study.source_count, there, at, p);
                 if number != 0 {
                     return Added {
                         number,

@@ -1,7 +1,12 @@
 // The calls on a study: started with a voltage tolerance, given bus records and source records one by one, closed.
 // Every call is total: it carries the number of the ground on which it was refused, 0 where it was accepted.
 ghost use mathlib.Core.Path.{_≡_};
-ghost use Rattle.network.specs.Network.{network};
+ghost use mathlib.Core.Bool.{true};
+ghost use lib.Dec.{ltb};
+ghost use lib.ListN.{length};
+ghost use Rattle.tree.specs.Limits.{maxSources};
+ghost use Rattle.network.specs.declared.study.Study.{Study};
+ghost use Rattle.network.specs.Network.{network, busAt};
 ghost use Rattle.network.specs.Grounds.{startNumber, startNetwork, busNumber, afterBus, sourceNumber, afterSource, closeNumber, afterClose};
 use crate::bus_grounds::bus_record_number;
 use crate::source_grounds::source_record_number;
@@ -11,6 +16,7 @@ use crate::study::SOURCES;
 use crate::study::Source;
 use crate::study::Study;
 use crate::study::empty_study;
+use crate::study::place_in;
 
 // What a call gives: the number of its ground and the study after it.
 pub struct Answer {
@@ -31,20 +37,20 @@ pub fn start(tolerance: u32) -> Answer
     Answer { number: 1, study }
 }
 
-// The ground on which a bus record is refused, 0 where it is accepted. The record is tried at the next place of the array.
-pub(crate) fn bus_number(s: Study, b: Bus) -> u32
-    ensures { λ r. ⌜ r ≡ busNumber (network s) b ⌝ }
+// The ground on which a bus record is refused, 0 where it is accepted: by whether the study is closed, its buses, and how many it counts.
+// It is tried at the next place of the array. The study itself is not handed on, since that copies it.
+pub(crate) fn bus_number(closed: bool, buses: [Bus; BUSES], n: usize, b: Bus) -> u32
+    ensures { λ r. ⌜ ((s : Study) → s .closed ≡ closed → s .buses ≡ buses → s .«bus_count» ≡ n → r ≡ busNumber (network s) b) ⌝ }
 {
-    if s.closed {
+    if closed {
         return 21;
     }
-    let n = s.bus_count;
     if BUSES <= n {
         return 23;
     }
-    let mut buses = s.buses;
-    buses[n] = b;
-    bus_record_number(buses, n)
+    let mut next = buses;
+    next[n] = b;
+    bus_record_number(next, n)
 }
 
 // The study with a bus more. Refused: 21 closed, 23 no room, 2 to 9 by the record.
@@ -53,7 +59,8 @@ pub fn add_bus(s: Study, b: Bus) -> Answer
     ensures kept { λ r. ⌜ ((r .number ≡ 0 → ⊥) → r .study ≡ s) ⌝ }
     ensures network { λ r. ⌜ network (r .study) ≡ afterBus (network s) b ⌝ }
 {
-    let bus_ground = bus_number(s, b);
+    let buses = s.buses;
+    let bus_ground = bus_number(s.closed, buses, s.bus_count, b);
     if bus_ground != 0 {
         return Answer {
             number: bus_ground,
@@ -70,18 +77,18 @@ pub fn add_bus(s: Study, b: Bus) -> Answer
     }
 }
 
-// The ground on which a source record is refused, 0 where it is accepted.
-pub(crate) fn source_number(s: Study, p: Source) -> u32
-    ensures { λ r. ⌜ r ≡ sourceNumber (network s) p ⌝ }
+// The same for a source record: by whether the study is closed, how many sources it counts, whether the record's bus is there, and that
+// bus.
+pub(crate) fn source_number(closed: bool, n: usize, there: bool, at: Bus, p: Source) -> u32
+    ensures { λ r. ⌜ ((s : Study) → s .closed ≡ closed → s .«source_count» ≡ n → length (s .sources) ≡ maxSources → ltb (p .bus) (length (network s .buses)) ≡ there → (there ≡ true → busAt (network s .buses) (p .bus) ≡ at) → r ≡ sourceNumber (network s) p) ⌝ }
 {
-    if s.closed {
+    if closed {
         return 21;
     }
-    let n = s.source_count;
     if SOURCES <= n {
         return 24;
     }
-    source_record_number(s, n, p)
+    source_record_number(there, at, n, p)
 }
 
 // The study with a source more. Refused: 21 closed, 24 no room, 10 to 14 by the record.
@@ -90,7 +97,11 @@ pub fn add_source(s: Study, p: Source) -> Answer
     ensures kept { λ r. ⌜ ((r .number ≡ 0 → ⊥) → r .study ≡ s) ⌝ }
     ensures network { λ r. ⌜ network (r .study) ≡ afterSource (network s) p ⌝ }
 {
-    let source_ground = source_number(s, p);
+    let bus = p.bus as usize;
+    let place = place_in(bus);
+    let at = s.buses[place];
+    let there = (bus < s.bus_count) & (bus < BUSES);
+    let source_ground = source_number(s.closed, s.source_count, there, at, p);
     if source_ground != 0 {
         return Answer {
             number: source_ground,

@@ -1,6 +1,11 @@
 // The grounds in the input on which a source record is refused: a test for each, and the first that fails.
 ghost use mathlib.Core.Path.{_≡_};
-ghost use Rattle.network.specs.Network.{network};
+ghost use mathlib.Core.Bool.{true};
+ghost use mathlib.Core.List.{List};
+ghost use lib.Dec.{ltb};
+ghost use lib.ListN.{length};
+ghost use Rattle.network.specs.declared.study.Bus.{Bus};
+ghost use Rattle.network.specs.Network.{busAt};
 ghost use Rattle.network.specs.Grounds.{machineVoltsOk, feederPlaceOk, sourceRecordNumber};
 use crate::checks::rated_ok;
 use crate::checks::unless;
@@ -11,9 +16,6 @@ use crate::source_kinds::kind_ok;
 use crate::source_kinds::machine_volts;
 use crate::study::Bus;
 use crate::study::Source;
-use crate::study::Study;
-use crate::study::bus_at;
-use crate::study::bus_total;
 
 // Ground 13: the rated volts of a machine that has them, at bus b.
 fn machine_volts_ok(b: Bus, p: Source) -> bool
@@ -30,17 +32,15 @@ fn feeder_place_ok(j: usize, p: Source) -> bool
     ((j == 0) & (feeder & (p.bus == 0))) | ((0 < j) & !feeder)
 }
 
-// The ground in the input on which the record of the source at place j is refused, 0 where it is accepted.
-pub(crate) fn source_record_number(s: Study, j: usize, p: Source) -> u32
-    ensures { λ r. ⌜ r ≡ sourceRecordNumber (network s .buses) j p ⌝ }
+// The ground in the input on which the record of a source at place j is refused, 0 where it is accepted: by whether its bus is there,
+// and by that bus.
+pub(crate) fn source_record_number(there: bool, at: Bus, j: usize, p: Source) -> u32
+    ensures { λ r. ⌜ ((l : List Bus) → ltb (p .bus) (length l) ≡ there → (there ≡ true → busAt l (p .bus) ≡ at) → r ≡ sourceRecordNumber l j p) ⌝ }
 {
-    let bus = p.bus as usize;
-    let at = bus_at(s, bus);
-    let total = bus_total(s);
     let kind = kind_ok(p);
     let fields = fields_ok(p);
     let volts = machine_volts_ok(at, p);
     let place = feeder_place_ok(j, p);
     let rest = unless(fields, 12, unless(volts, 13, unless(place, 14, 0)));
-    unless(kind, 10, unless(bus < total, 11, rest))
+    unless(kind, 10, unless(there, 11, rest))
 }

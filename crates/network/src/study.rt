@@ -1,7 +1,9 @@
 // A study: the records that it is given, and the room that it has for them.
 ghost use mathlib.Core.Path.{_≡_};
+ghost use Prim.Native.Nat.{_<_};
 ghost use lib.ListN.{length};
-ghost use Rattle.network.specs.Network.{blank, blankSource, network, busAt};
+ghost use Rattle.tree.specs.Limits.{maxBuses};
+ghost use Rattle.network.specs.Network.{blank, blankSource, network};
 ghost use Rattle.network.specs.Grounds.{emptyOf};
 
 // The buses that a study has room for.
@@ -96,17 +98,11 @@ pub fn source_total(s: Study) -> usize
     SOURCES
 }
 
-// The record of bus i, blank past the last one.
-pub(crate) fn bus_at(s: Study, i: usize) -> Bus
-    ensures { λ r. ⌜ r ≡ busAt (network s .buses) i ⌝ }
+// The place of bus i in the array; some place, where the array has none for it.
+pub(crate) fn place_in(i: usize) -> usize
+    ensures { λ r. ⌜ (r < maxBuses) × (i < maxBuses → r ≡ i) ⌝ }
 {
-    if s.bus_count <= i {
-        return blank_bus();
-    }
-    if BUSES <= i {
-        return blank_bus();
-    }
-    s.buses[i]
+    if i < BUSES { i } else { 0 }
 }
 
 // An open study without records.

@@ -9,11 +9,11 @@ use Rattle.tree.specs.Limits.{maxBuses, maxSources}
 use Rattle.network.specs.Network.{Network, network}
 use Rattle.network.specs.declared.additions.Addition.the-variants.{OfBus, OfSource}
 use Rattle.network.specs.declared.additions.Entry.{Entry}
-use Rattle.network.specs.Grounds.{runFrom}
+use Rattle.network.specs.Grounds.{busNumber, sourceNumber, runFrom}
 use Rattle.network.specs.Additions.{maxAdditions, listed, AddedNetwork, addedFrom, called}
 use Rattle.network.specs.laws.Additions.{added-run}
 use Rattle.network.proofs.Lists.{length-mapped, count-most}
-use Rattle.network.proofs.Adding.{bus-fits, bus-stored, source-fits, source-stored, addition-accepted, addition-refused, additions-end}
+use Rattle.network.proofs.Adding.{bus-fits, bus-stored, bus-there, bus-found, source-fits, source-stored, addition-accepted, addition-refused, additions-end}
 use Rattle.network.proofs.additions.add_all.Statement.{statement}
 use Rattle.network.proofs.additions.add_all.Tie as tie
 
@@ -65,20 +65,31 @@ answered n es {k} {i} e =
     let ran = sym (ap (λ (a : AddedNetwork). a .network) e) ∙ added-run 0 n es ∙ ap (λ (a : AddedNetwork). runFrom n (map called (take (a .count - 0) es))) e in
     (sym e, rw none at ran)
 
+-- what each arm tries is the addition to the study of the turn
+tried-bus : (c : tie.After-bus-number Inv-loop μ-loop) → c .bus-number .result ≡ busNumber (network (c .before .before .before .before .before .before .before .loop .study)) (c .before .before .before .addition .given .0 .0)
+tried-bus c = c .bus-number .ensures (c .before .before .before .before .before .before .before .loop .study) refl refl refl
+
+tried-source : (c : tie.After-source-number Inv-loop μ-loop) → c .source-number .result ≡ sourceNumber (network (c .before .before .before .before .before .before .before .before .before .loop .study)) (c .before .before .before .before .before .addition2 .given .0 .0)
+tried-source c =
+    let l = c .before .before .before .before .before .before .before .before .before .loop in
+    let p = c .before .before .before .before .before .addition2 .given .0 .0 in
+    let place = c .before .before .place-in in
+    c .source-number .ensures (l .study) refl refl (l .inv .2) (bus-there (l .study) p (place .result) (l .inv .1) (place .ensures)) (bus-found (l .study) p (place .result) (l .inv .1) (place .ensures))
+
 returns : tie.Need-returns Inv-loop μ-loop
 returns c =
-    let l = c .before .before .before .before .before .before .before .loop in
-    let a = c .before .before .before .before .before .before .before .before .before .args in
+    let l = c .before .before .before .before .before .before .before .before .loop in
+    let a = c .before .before .before .before .before .before .before .before .before .before .args in
     let more = a .t2 in
-    let h = inside (c .before .before .before .before .before .before) .0 in
-    let refusal = addition-refused (more .count) (more .entries) (l .i) (network (l .study)) _ _ h (c .before .before .before .addition .given .1) in
-    answered (network (a .s)) (listed more) (l .inv .3 ∙ refusal _ (c .before .bus-number .ensures) (c .if1 .taken))
+    let h = inside (c .before .before .before .before .before .before .before) .0 in
+    let refusal = addition-refused (more .count) (more .entries) (l .i) (network (l .study)) _ _ h (c .before .before .before .before .addition .given .1) in
+    answered (network (a .s)) (listed more) (l .inv .3 ∙ refusal _ (tried-bus (c .before)) (c .if1 .taken))
 
 -- an accepted bus found room
-bus-few : (c : tie.Else1 Inv-loop μ-loop) → c .before .before .before .before .before .before .before .loop .study .«bus_count» < maxBuses
+bus-few : (c : tie.Else1 Inv-loop μ-loop) → c .before .before .before .before .before .before .before .before .loop .study .«bus_count» < maxBuses
 bus-few c =
-    let l = c .before .before .before .before .before .before .before .loop in
-    bus-fits (l .study) _ (l .inv .1) (sym (c .before .bus-number .ensures) ∙ c .if1 .left)
+    let l = c .before .before .before .before .before .before .before .before .loop in
+    bus-fits (l .study) _ (l .inv .1) (sym (tried-bus (c .before)) ∙ c .if1 .left)
 
 mul-b : tie.Need-mul-b Inv-loop μ-loop
 mul-b c = let k = bus-few c in record { fits = omega arith }
@@ -92,23 +103,35 @@ add-study c = let k = bus-few c in record { fits = omega arith }
 enum-known-addition-2 : tie.Need-enum-known-addition-2 Inv-loop μ-loop
 enum-known-addition-2 c = search needs
 
+cast-bus : tie.Need-cast-bus Inv-loop μ-loop
+cast-bus c = search needs
+
+place-in-requires : tie.Need-place-in-requires Inv-loop μ-loop
+place-in-requires c κs = search needs
+
+mul-at : tie.Need-mul-at Inv-loop μ-loop
+mul-at c = let h = c .place-in .ensures .0 in record { fits = omega arith }
+
+element-copy-out-at : tie.Need-element-copy-out-at Inv-loop μ-loop
+element-copy-out-at c = c .place-in .ensures .0
+
 source-number-requires : tie.Need-source-number-requires Inv-loop μ-loop
 source-number-requires c κs = search needs
 
 returns-2 : tie.Need-returns-2 Inv-loop μ-loop
 returns-2 c =
-    let l = c .before .before .before .before .before .before .before .loop in
-    let a = c .before .before .before .before .before .before .before .before .before .args in
+    let l = c .before .before .before .before .before .before .before .before .before .before .loop in
+    let a = c .before .before .before .before .before .before .before .before .before .before .before .before .args in
     let more = a .t2 in
-    let h = inside (c .before .before .before .before .before .before) .0 in
-    let refusal = addition-refused (more .count) (more .entries) (l .i) (network (l .study)) _ _ h (c .before .before .before .addition2 .given .1) in
-    answered (network (a .s)) (listed more) (l .inv .3 ∙ refusal _ (c .before .source-number .ensures) (c .if2 .taken))
+    let h = inside (c .before .before .before .before .before .before .before .before .before) .0 in
+    let refusal = addition-refused (more .count) (more .entries) (l .i) (network (l .study)) _ _ h (c .before .before .before .before .before .before .addition2 .given .1) in
+    answered (network (a .s)) (listed more) (l .inv .3 ∙ refusal _ (tried-source (c .before)) (c .if2 .taken))
 
 -- an accepted source found room
-source-few : (c : tie.Else2 Inv-loop μ-loop) → c .before .before .before .before .before .before .before .loop .study .«source_count» < maxSources
+source-few : (c : tie.Else2 Inv-loop μ-loop) → c .before .before .before .before .before .before .before .before .before .before .loop .study .«source_count» < maxSources
 source-few c =
-    let l = c .before .before .before .before .before .before .before .loop in
-    source-fits (l .study) _ (l .inv .2) (sym (c .before .source-number .ensures) ∙ c .if2 .left)
+    let l = c .before .before .before .before .before .before .before .before .before .before .loop in
+    source-fits (l .study) _ (l .inv .2) (sym (tried-source (c .before)) ∙ c .if2 .left)
 
 mul-p : tie.Need-mul-p Inv-loop μ-loop
 mul-p c = let k = source-few c in record { fits = omega arith }
@@ -124,13 +147,13 @@ loop-less c = omega arith
 
 loop-again : tie.Need-loop-again Inv-loop μ-loop
 loop-again c =
-    let l = c .before .before .before .before .before .before .before .loop in
-    let more = c .before .before .before .before .before .before .before .before .before .args .t2 in
-    let h = inside (c .before .before .before .before .before .before) .0 in
-    let z = sym (c .before .bus-number .ensures) ∙ c .if1 .left in
-    let acceptance = addition-accepted (more .count) (more .entries) (l .i) (network (l .study)) _ _ h (c .before .before .before .addition .given .1) z in (
+    let l = c .before .before .before .before .before .before .before .before .loop in
+    let more = c .before .before .before .before .before .before .before .before .before .before .args .t2 in
+    let h = inside (c .before .before .before .before .before .before .before) .0 in
+    let z = sym (tried-bus (c .before)) ∙ c .if1 .left in
+    let acceptance = addition-accepted (more .count) (more .entries) (l .i) (network (l .study)) _ _ h (c .before .before .before .before .addition .given .1) z in (
       omega arith,
-      length-set (l .study .buses) (l .study .«bus_count») (c .before .before .before .addition .given .0 .0) ∙ l .inv .1,
+      length-set (l .study .buses) (l .study .«bus_count») (c .before .before .before .before .addition .given .0 .0) ∙ l .inv .1,
       l .inv .2,
       l .inv .3 ∙ acceptance ∙ ap (λ (n : Network). addedFrom (l .i + 1) n (drop (l .i + 1) (listed more))) (sym (bus-stored (l .study) _ (l .inv .1) z)),
     )
@@ -140,14 +163,14 @@ loop-less-2 c = omega arith
 
 loop-again-2 : tie.Need-loop-again-2 Inv-loop μ-loop
 loop-again-2 c =
-    let l = c .before .before .before .before .before .before .before .loop in
-    let more = c .before .before .before .before .before .before .before .before .before .args .t2 in
-    let h = inside (c .before .before .before .before .before .before) .0 in
-    let z = sym (c .before .source-number .ensures) ∙ c .if2 .left in
-    let acceptance = addition-accepted (more .count) (more .entries) (l .i) (network (l .study)) _ _ h (c .before .before .before .addition2 .given .1) z in (
+    let l = c .before .before .before .before .before .before .before .before .before .before .loop in
+    let more = c .before .before .before .before .before .before .before .before .before .before .before .before .args .t2 in
+    let h = inside (c .before .before .before .before .before .before .before .before .before) .0 in
+    let z = sym (tried-source (c .before)) ∙ c .if2 .left in
+    let acceptance = addition-accepted (more .count) (more .entries) (l .i) (network (l .study)) _ _ h (c .before .before .before .before .before .before .addition2 .given .1) z in (
       omega arith,
       l .inv .1,
-      length-set (l .study .sources) (l .study .«source_count») (c .before .before .before .addition2 .given .0 .0) ∙ l .inv .2,
+      length-set (l .study .sources) (l .study .«source_count») (c .before .before .before .before .before .before .addition2 .given .0 .0) ∙ l .inv .2,
       l .inv .3 ∙ acceptance ∙ ap (λ (n : Network). addedFrom (l .i + 1) n (drop (l .i + 1) (listed more))) (sym (source-stored (l .study) _ (l .inv .2) z)),
     )
 
@@ -176,6 +199,10 @@ add-all-spec =
     element-set-from-b
     add-study
     enum-known-addition-2
+    cast-bus
+    place-in-requires
+    mul-at
+    element-copy-out-at
     source-number-requires
     returns-2
     mul-p

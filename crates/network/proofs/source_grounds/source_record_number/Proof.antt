@@ -1,17 +1,14 @@
--- `source_record_number` meets its contract: what the tests and the chain of `unless` ensure, put together.
-use Rattle.network.specs.Grounds.{sourceRecordNumber}
+-- `source_record_number` meets its contract: what the tests and the chain of `unless` ensure, put together. The bus's record is asked for
+-- only where the bus is there.
+use mathlib.Core.Path.{_≡_, refl, sym, _∙_, ap}
+use mathlib.Core.Bool.{Bool, true, false, cond}
+use Prim.Native.Nat.{ℕ}
+use Rattle.network.specs.declared.study.Bus.{Bus}
+use Rattle.network.specs.SourceKinds.{sourceKindOk, fieldsOk}
+use Rattle.network.specs.Grounds.{machineVoltsOk, feederPlaceOk, sourceRecordNumber}
 use borrow.Author.Needs.{needs}
 use Rattle.network.proofs.source_grounds.source_record_number.Statement.{statement}
 use Rattle.network.proofs.source_grounds.source_record_number.Tie as tie
-
-cast-bus : tie.Need-cast-bus
-cast-bus c = search needs
-
-bus-at-requires : tie.Need-bus-at-requires
-bus-at-requires c κs = search needs
-
-bus-total-requires : tie.Need-bus-total-requires
-bus-total-requires c κs = search needs
 
 kind-ok-requires : tie.Need-kind-ok-requires
 kind-ok-requires c κs = search needs
@@ -40,17 +37,23 @@ unless-requires-4 c κs = search needs
 unless-requires-5 : tie.Need-unless-requires-5
 unless-requires-5 c κs = search needs
 
+-- a chain with another answer behind the test of the bus
+chain : (kind there fields v w place : Bool) → (there ≡ true → v ≡ w)
+    → _≡_ {A = ℕ} (cond kind (cond there (cond fields (cond v (cond place 0 14) 13) 12) 11) 10) (cond kind (cond there (cond fields (cond w (cond place 0 14) 13) 12) 11) 10)
+chain kind true fields v w place h = rw (h refl)
+chain kind false fields v w place h = refl
+
 returns : tie.Need-returns
 unfolding sourceRecordNumber
-returns c = cc
+returns c = λ l e h.
+    let a = c .before .before .before .before .before .before .before .before .before .args in
+    let chained : c .unless5 .result ≡ cond (sourceKindOk (a .p)) (cond (a .there) (cond (fieldsOk (a .p)) (cond (machineVoltsOk (a .at) (a .p)) (cond (feederPlaceOk (a .j) (a .p)) 0 14) 13) 12) 11) 10 = cc in
+    rw e (chained ∙ chain (sourceKindOk (a .p)) (a .there) (fieldsOk (a .p)) (machineVoltsOk (a .at) (a .p)) _ (feederPlaceOk (a .j) (a .p)) (λ u. ap (λ (b : Bus). machineVoltsOk b (a .p)) (sym (h u))))
 
 pub source-record-number-spec : {M : Type 1} → statement M
 source-record-number-spec =
     tie.close
     (tie.spec
-    cast-bus
-    bus-at-requires
-    bus-total-requires
     kind-ok-requires
     fields-ok-requires
     machine-volts-ok-requires
