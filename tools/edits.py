@@ -14,6 +14,7 @@ import subprocess
 import tempfile
 import time
 from pathlib import Path
+from threading import Lock
 
 # How the first error of a log begins, and the name of the declaration that it refuses. An error with no such name says
 # that a text cannot be read, or that a file or a name is not there.
@@ -148,13 +149,13 @@ def try_edit(folder, name, edit):
     return reason
 
 
-def work_place():
+def work_place(memory=MEMORY, room=ROOM):
     """Where the copies are made: in memory if it has the room, since a disk makes small files slowly, or else where temporary files lie."""
     try:
-        roomy = os.access(MEMORY, os.W_OK) and shutil.disk_usage(MEMORY).free >= ROOM
+        roomy = os.access(memory, os.W_OK) and shutil.disk_usage(memory).free >= room
     except OSError:
         roomy = False
-    return MEMORY if roomy else tempfile.gettempdir()
+    return memory if roomy else tempfile.gettempdir()
 
 
 def copy_proved(folder, proved):
@@ -198,33 +199,45 @@ def try_crate(name, edits, proved):
 
 
 class QuickEdits:
-    """The edits of every must-fail/quick/: those of a crate are one task of a pool, begun once rt ci has proved the crate."""
+    """The edits of every must-fail/quick/, a crate to a worker of a pool, begun once rt ci has proved the crate."""
 
     def __init__(self, pool):
-        self.pool, self.groups, self.proved, self.tasks = pool, {}, [], {}
+        self.pool, self.groups, self.proved, self.tasks = pool, {}, [], []
+        self.waiting, self.lock = [], Lock()
         for edit in sorted(Path("crates").glob("*/must-fail/quick/*")):
             self.groups.setdefault(edit.parts[1], []).append(edit)
 
     def hear(self, line):
-        """Takes a line of rt ci, and begins a crate that it says is proved."""
+        """Takes a line of rt ci, and lets a crate that it says is proved be tried."""
         said = SAID_PROVED.match(line)
         if said:
             self.proved.append(said[1])
-            self.begin(said[1])
+            self.let(said[1])
 
-    def begin(self, name):
-        if name in self.groups and name not in self.tasks:
-            self.tasks[name] = self.pool.submit(try_crate, name, self.groups[name], list(self.proved))
+    def let(self, name):
+        """Lets a crate be tried by the next worker that is free, unless another has more edits."""
+        edits = self.groups.pop(name, None)
+        if edits:
+            with self.lock:
+                self.waiting.append((name, edits, list(self.proved)))
+            self.tasks.append(self.pool.submit(self.try_largest))
 
-    def begin_rest(self):
-        """Begins the crates that rt ci did not prove; rt dev says so of them."""
-        for name in self.groups:
-            self.begin(name)
+    def let_rest(self):
+        """Lets the crates that rt ci did not prove be tried; rt dev says so of them."""
+        for name in list(self.groups):
+            self.let(name)
+
+    def try_largest(self):
+        """Tries the crate with the most edits of those that wait, so that none with many is left to run alone at the end."""
+        with self.lock:
+            largest = max(self.waiting, key=lambda crate: len(crate[1]))
+            self.waiting.remove(largest)
+        return try_crate(*largest)
 
     def results(self):
         """Prints what was tried, a crate after the other: what it counts, and the seconds of all crates together."""
         pairs, total = [], 0
-        for task in self.tasks.values():
+        for task in self.tasks:
             lines, reasons, seconds = task.result()
             for line in lines:
                 print(line)

@@ -140,28 +140,35 @@ def beside_rt_ci(pool, workers):
     return over
 
 
+def shown_parts(pool, workers, crates, edits):
+    """The parts of the gate in the order in which they are shown: the name, what it counts and why it fails, and its seconds. The quick
+    edits of a crate begin once rt ci has proved it, the tests once rt ci is over."""
+    quick, over, began = QuickEdits(pool), beside_rt_ci(pool, workers), time.monotonic()
+    print("---- crates (rt ci)")
+    try:
+        proof = prove(crates, edits, quick.hear)
+    finally:
+        over.set()
+    quick.let_rest()
+    tests = [(path, pool.submit(try_test, path)) for path in sorted(Path("tests").glob("check-*"))]
+    yield "crates (rt ci)", proof, time.monotonic() - began
+    yield "must-fail edits (rt ci)", refusals(edits), 0
+    print("---- must-fail edits (rt dev)")
+    yield "must-fail edits (rt dev)", *quick.results()
+    for path, task in tests:
+        lines, result, seconds = task.result()
+        print("\n".join([f"---- {path}", *lines]))
+        yield str(path), result, seconds
+
+
 def parts(crates, edits):
-    """The parts of the gate in the order in which they are shown: the name, what it counts and why it fails, and its seconds. A worker is
-    given to each processor, up to four. The quick edits of a crate begin once rt ci has proved it, the tests once rt ci is over."""
+    """All parts, by a worker to each processor, up to four."""
     workers = max(1, min(4, os.cpu_count() or 1))
-    began = time.monotonic()
     with ThreadPoolExecutor(workers) as pool:
-        quick, over = QuickEdits(pool), beside_rt_ci(pool, workers)
-        print("---- crates (rt ci)")
         try:
-            proof = prove(crates, edits, quick.hear)
+            yield from shown_parts(pool, workers, crates, edits)
         finally:
-            over.set()
-        quick.begin_rest()
-        tests = [(path, pool.submit(try_test, path)) for path in sorted(Path("tests").glob("check-*"))]
-        yield "crates (rt ci)", proof, time.monotonic() - began
-        yield "must-fail edits (rt ci)", refusals(edits), 0
-        print("---- must-fail edits (rt dev)")
-        yield "must-fail edits (rt dev)", *quick.results()
-        for path, task in tests:
-            lines, result, seconds = task.result()
-            print("\n".join([f"---- {path}", *lines]))
-            yield str(path), result, seconds
+            pool.shutdown(cancel_futures=True)  # where the gate is stopped, nothing more begins
 
 
 def main():
