@@ -133,7 +133,7 @@ def try_test(path):
 # ---- all of it
 
 def beside_rt_ci(pool, workers):
-    """Has all workers of the pool but one wait until rt ci is over, which takes a processor for each crate that it can: what to set then."""
+    """Has all workers of the pool but one wait for rt ci, which takes as many processors as it can: the event to set when it is over."""
     over = Event()
     for _ in range(workers - 1):
         pool.submit(over.wait)
