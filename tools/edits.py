@@ -4,16 +4,17 @@ A refusal shows that and no more: the prover cannot tell a false fact from one t
 is for tools/confirm-edits to say.
 
 `rt ci` tries those of crates/NAME/must-fail/ and proves the whole crate for each. Those of must-fail/quick/ are tried here,
-by `rt dev`, which takes what an edit leaves as it was from the crate's incremental folder. That folder begins empty, and the
-crate must be proved in it before the first edit and again after the last: so it is the edit that is refused."""
+by `rt dev`, which takes what an edit leaves as it was from the crate's incremental folder. That folder begins with the modules that
+`rt ci` has just checked from nothing, or empty, and the crate must be proved in it before the first edit and again after the last:
+so it is the edit that is refused."""
 import os
 import re
 import shutil
 import subprocess
 import tempfile
 import time
-from concurrent.futures import ThreadPoolExecutor
 from pathlib import Path
+from threading import Lock
 
 # How the first error of a log begins, and the name of the declaration that it refuses. An error with no such name says
 # that a text cannot be read, or that a file or a name is not there.
@@ -29,6 +30,11 @@ ELSEWHERE = re.compile(r"but this has type `(?:[\w.]*\bNeed-|[^`\s]*\.Lts\.(?:Af
 # An error that follows from another.
 FOLLOWS = re.compile(r"[^`]*`[^`]+`: `[^`]+` was not admitted")
 PROVED = re.compile(r"^logic=proved ", re.M)
+# What rt ci says of a crate once its library is written.
+SAID_PROVED = re.compile(r"rt: (\w+) proved \(")
+# Files in memory, and the room that the copies of up to four crates need there, with what rt writes beside them.
+MEMORY = "/dev/shm"
+ROOM = 4 << 30
 
 
 def read(path):
@@ -119,9 +125,11 @@ def edited(edit, folder):
 
 
 def develop(folder, name):
-    """What rt dev says of a crate."""
-    done = subprocess.run(["rt", "dev", name], cwd=folder, stdin=subprocess.DEVNULL, stdout=subprocess.PIPE,
-                          stderr=subprocess.STDOUT, encoding="utf-8", errors="replace")
+    """What rt dev says of a crate. What rt keeps for one run lies in the folder too: it copies some 1,700 files each time."""
+    own = folder / "own"
+    own.mkdir(exist_ok=True)
+    done = subprocess.run(["rt", "dev", name], cwd=folder, stdin=subprocess.DEVNULL, stdout=subprocess.PIPE, stderr=subprocess.STDOUT,
+                          env={**os.environ, "TMPDIR": str(own)}, encoding="utf-8", errors="replace")
     return done.stdout
 
 
@@ -141,32 +149,97 @@ def try_edit(folder, name, edit):
     return reason
 
 
-def try_crate(name, edits):
-    """Tries a crate's quick edits one after the other, in a copy of the repository with the crates that it stands on proved."""
-    reasons = []
-    with tempfile.TemporaryDirectory() as place:
+def work_place(memory=MEMORY, room=ROOM):
+    """Where the copies are made: in memory if it has the room, since a disk makes small files slowly, or else where temporary files lie."""
+    try:
+        roomy = os.access(memory, os.W_OK) and shutil.disk_usage(memory).free >= room
+    except OSError:
+        roomy = False
+    return memory if roomy else tempfile.gettempdir()
+
+
+def copy_proved(folder, proved):
+    """Makes the folder a copy of the repository, with the libraries that rt ci has proved."""
+    (folder / ".git").mkdir()  # rt wants crates.txt at the top of its repository
+    shutil.copy("crates.txt", folder)
+    shutil.copytree("crates", folder / "crates")
+    (folder / "target/stamp").mkdir(parents=True)
+    for library in (name for name in proved if os.path.isfile(f"target/stamp/{name}") and os.path.isdir(f"target/rlib/{name}.rlib")):
+        shutil.copytree(f"target/rlib/{library}.rlib", folder / f"target/rlib/{library}.rlib")
+        shutil.copy(f"target/stamp/{library}", folder / "target/stamp")
+
+
+def begin_with_checked(folder, name, first):
+    """Gives the crate's incremental folder the modules that rt ci checked for its library. rt dev takes each whose source is the same; a
+    program has none, and is checked from nothing. What rt calls the folder within shows in that of the first crate, which is small."""
+    checked = folder / f"target/rlib/{name}.rlib/toolchain/checked"
+    if name != first and checked.is_dir():
+        develop(folder, first)
+        for made in (folder / "target/inc" / first).glob("*"):
+            shutil.copytree(checked, folder / "target/inc" / name / made.name)
+
+
+def try_crate(name, edits, proved):
+    """Tries a crate's quick edits one after the other, in a copy of the repository with the crates that it stands on proved: the lines to
+    print, each edit with what is wrong with it, and the seconds."""
+    lines, reasons, start = [], [], time.monotonic()
+    with tempfile.TemporaryDirectory(prefix="must-fail-", dir=work_place()) as place:
         folder = Path(place)
-        (folder / ".git").mkdir()  # rt wants crates.txt at the top of its repository
-        shutil.copy("crates.txt", folder)
-        shutil.copytree("crates", folder / "crates")
-        for made in filter(os.path.isdir, ("target/rlib", "target/stamp")):
-            shutil.copytree(made, folder / made)
+        copy_proved(folder, proved)
+        begin_with_checked(folder, name, proved[0] if proved else name)
         sound = PROVED.search(develop(folder, name))
         for edit in edits if sound else []:
             began = time.monotonic()
             reasons.append((edit, misplaced(edit) or try_edit(folder, name, edit)))
-            print(f"must-fail quick {name}/{edit.stem}: {reasons[-1][1] or 'refused, a proof no longer goes through'} ({time.monotonic() - began:.1f} s)")
+            said = reasons[-1][1] or "refused, a proof no longer goes through"
+            lines.append(f"must-fail quick {name}/{edit.stem}: {said} ({time.monotonic() - began:.1f} s)")
         if not sound or not PROVED.search(develop(folder, name)):
             reasons = [(edit, "rt dev does not prove the crate without the edit") for edit in edits]
-    return reasons
+    return lines, reasons, time.monotonic() - start
 
 
-def quick_refusals():
-    """Tries the edits of every must-fail/quick/, a crate to a processor, up to four; crates with many edits first."""
-    groups = {}
-    for edit in sorted(Path("crates").glob("*/must-fail/quick/*")):
-        groups.setdefault(edit.parts[1], []).append(edit)
-    names = sorted(groups, key=lambda name: -len(groups[name]))
-    with ThreadPoolExecutor(max(1, min(4, os.cpu_count() or 1))) as pool:
-        results = list(pool.map(try_crate, names, [groups[name] for name in names]))
-    return counted([pair for result in results for pair in result])
+class QuickEdits:
+    """The edits of every must-fail/quick/, a crate to a worker of a pool, begun once rt ci has proved the crate."""
+
+    def __init__(self, pool):
+        self.pool, self.groups, self.proved, self.tasks = pool, {}, [], []
+        self.waiting, self.lock = [], Lock()
+        for edit in sorted(Path("crates").glob("*/must-fail/quick/*")):
+            self.groups.setdefault(edit.parts[1], []).append(edit)
+
+    def hear(self, line):
+        """Takes a line of rt ci, and lets a crate that it says is proved be tried."""
+        said = SAID_PROVED.match(line)
+        if said:
+            self.proved.append(said[1])
+            self.let(said[1])
+
+    def let(self, name):
+        """Lets a crate be tried by the next worker that is free, unless another has more edits."""
+        edits = self.groups.pop(name, None)
+        if edits:
+            with self.lock:
+                self.waiting.append((name, edits, list(self.proved)))
+            self.tasks.append(self.pool.submit(self.try_largest))
+
+    def let_rest(self):
+        """Lets the crates that rt ci did not prove be tried; rt dev says so of them."""
+        for name in list(self.groups):
+            self.let(name)
+
+    def try_largest(self):
+        """Tries the crate with the most edits of those that wait, so that none with many is left to run alone at the end."""
+        with self.lock:
+            largest = max(self.waiting, key=lambda crate: len(crate[1]))
+            self.waiting.remove(largest)
+        return try_crate(*largest)
+
+    def results(self):
+        """Prints what was tried, a crate after the other: what it counts, and the seconds of all crates together."""
+        pairs, total = [], 0
+        for task in self.tasks:
+            lines, reasons, seconds = task.result()
+            for line in lines:
+                print(line)
+            pairs, total = pairs + reasons, total + seconds
+        return counted(pairs), total

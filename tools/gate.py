@@ -1,7 +1,7 @@
 """The gate of this repository, started by ./test; docs/GATE.md says how it decides.
 
-Prints what each part prints, then a table of the parts, the reasons of failure, and last `N passed, M failed`. The tests of tests/ run
-side by side, and print in order."""
+Prints what each part prints, then a table of the parts, the reasons of failure, and last `N passed, M failed`. The quick must-fail edits
+begin beside rt ci, and the tests of tests/ beside the last of them; what they print stays in order."""
 import os
 import re
 import shutil
@@ -9,16 +9,17 @@ import subprocess
 import sys
 import time
 from concurrent.futures import ThreadPoolExecutor
-from itertools import chain
 from pathlib import Path
+from threading import Event
 
-from edits import listed_edits, quick_refusals, read, refusals
+from edits import QuickEdits, listed_edits, read, refusals
 
 COUNT = re.compile(r"(\d+) passed, (\d+) failed")
 
 
-def run(command, show=True):
-    """Runs a command: its status, its lines, and the count on its last line, if it has one. Its lines are passed on as they come."""
+def run(command, show=True, hear=None):
+    """Runs a command: its status, its lines, and the count on its last line, if it has one. Its lines are passed on as they come, to
+    `hear` too."""
     lines = []
     try:
         child = subprocess.Popen(command, stdin=subprocess.DEVNULL, stdout=subprocess.PIPE, stderr=subprocess.STDOUT,
@@ -31,6 +32,8 @@ def run(command, show=True):
         for line in child.stdout:
             if show:
                 print(line, end="")
+            if hear:
+                hear(line)
             lines.append(line.rstrip("\n"))
     count = COUNT.fullmatch(lines[-1]) if lines else None
     return child.returncode, lines, count and (int(count[1]), int(count[2]))
@@ -88,9 +91,9 @@ def layout(crates):
 
 # ---- rt ci
 
-def prove(crates, edits):
-    """Runs rt ci, and counts the crates that it proved and whose programs wrote what they should."""
-    status, lines, count = run(["rt", "ci"])
+def prove(crates, edits, hear):
+    """Runs rt ci, and counts the crates that it proved and whose programs wrote what they should. `hear` takes its lines as they come."""
+    status, lines, count = run(["rt", "ci"], hear=hear)
     failed = [name for line in lines if line.startswith("rt: FAILED:") for name in line.split()[2:]]
     bad = [name for name in failed if "/" not in name]  # NAME/LABEL is an edit, which `refusals` counts
     bad += [name for name in crates if name not in bad and not any(line.startswith(f"rt: {name} proved (") for line in lines)]
@@ -127,22 +130,45 @@ def try_test(path):
     return lines, judged(path, status, count), time.monotonic() - began
 
 
-def tests():
-    """The tests, a processor each, up to four at a time; each is given in turn, once it is done and what it printed is shown."""
-    paths = sorted(Path("tests").glob("check-*"))
-    with ThreadPoolExecutor(max(1, min(4, os.cpu_count() or 1))) as pool:
-        for path, (lines, result, seconds) in zip(paths, pool.map(try_test, paths)):
-            print("\n".join([f"---- {path}", *lines]))
-            yield str(path), result, seconds
+# ---- all of it
+
+def beside_rt_ci(pool, workers):
+    """Has all workers of the pool but one wait for rt ci, which takes as many processors as it can: the event to set when it is over."""
+    over = Event()
+    for _ in range(workers - 1):
+        pool.submit(over.wait)
+    return over
 
 
-def first_parts(crates, edits):
-    """The crates and the must-fail edits, one after the other: what each counts, why it fails, and its seconds."""
-    for name, work, *arguments in (("crates (rt ci)", prove, crates, edits), ("must-fail edits (rt ci)", refusals, edits),
-                                   ("must-fail edits (rt dev)", quick_refusals)):
-        print(f"---- {name}")
-        began = time.monotonic()
-        yield name, work(*arguments), time.monotonic() - began
+def shown_parts(pool, workers, crates, edits):
+    """The parts of the gate in the order in which they are shown: the name, what it counts and why it fails, and its seconds. The quick
+    edits of a crate begin once rt ci has proved it, the tests once rt ci is over."""
+    quick, over, began = QuickEdits(pool), beside_rt_ci(pool, workers), time.monotonic()
+    print("---- crates (rt ci)")
+    try:
+        proof = prove(crates, edits, quick.hear)
+    finally:
+        over.set()
+    quick.let_rest()
+    tests = [(path, pool.submit(try_test, path)) for path in sorted(Path("tests").glob("check-*"))]
+    yield "crates (rt ci)", proof, time.monotonic() - began
+    yield "must-fail edits (rt ci)", refusals(edits), 0
+    print("---- must-fail edits (rt dev)")
+    yield "must-fail edits (rt dev)", *quick.results()
+    for path, task in tests:
+        lines, result, seconds = task.result()
+        print("\n".join([f"---- {path}", *lines]))
+        yield str(path), result, seconds
+
+
+def parts(crates, edits):
+    """All parts, by a worker to each processor, up to four."""
+    workers = max(1, min(4, os.cpu_count() or 1))
+    with ThreadPoolExecutor(workers) as pool:
+        try:
+            yield from shown_parts(pool, workers, crates, edits)
+        finally:
+            pool.shutdown(cancel_futures=True)  # where the gate is stopped, nothing more begins
 
 
 def main():
@@ -156,10 +182,12 @@ def main():
         print("Nothing was proved or run: the repository's files are to be put right first.")
     else:
         table = [("part", "passed", "failed", "seconds")]
-        for name, (good, bad, why), seconds in chain(first_parts(crates, edits), tests()):
+        began = time.monotonic()
+        for name, (good, bad, why), seconds in parts(crates, edits):
             bad = max(bad, 1 if why else 0)
             table.append((name, good, bad, round(seconds)))
             passed, failed, reasons = passed + good, failed + bad, reasons + why
+        table.append(("all, many at a time", passed, failed, round(time.monotonic() - began)))
         print("----")
         for row in table:
             print("{:<32}{:>8}{:>8}{:>9}".format(*row))
