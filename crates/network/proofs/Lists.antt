@@ -1,15 +1,12 @@
 -- The records that are counted, as the first ones of the array that holds them.
-use mathlib.Core.Path.{_≡_, refl, sym, ap, _∙_}
-use mathlib.Core.List.{List, [], _∷_, _++_, map}
+use mathlib.Core.Path.{_≡_, refl, sym, ap}
+use mathlib.Core.List.{List, [], _∷_, _++_}
 use Prim.Native.Nat.{ℕ, zero, suc, _+_, _≤_, _<_}
 use native.Mathlib.Omega.{arith}
 use native.Mathlib.Numerals.{add-one}
-use lib.ListN.{length, take, set, getD, length-map, length-take, List·getD-eq-default}
+use lib.ListN.{length, take, set, getD, length-take, List·getD-eq-default}
 use lib.Seq.{take-suc-set, getD-take}
-
--- the length of an array in a struct, from what owning the struct tells of its list of data tuples
-pub length-mapped : {X Y : Type 0} (f : X → Y) (l : List X) (n : ℕ) → length (map f l) ≡ n → length l ≡ n
-length-mapped f l n e = sym (length-map l f) ∙ e
+pub use Rattle.network.specs.laws.Arrays.{length-mapped}
 
 -- as many records as are counted are the counted ones
 pub counted-again : {X : Type 0} (n : ℕ) (l : List X) → take (length (take n l)) l ≡ take n l

@@ -10,7 +10,7 @@ use Rattle.network.specs.Network.{maxBuses}
 use Rattle.network.specs.Query.{refusedBy, rowAt}
 use Rattle.bench.specs.Queries.{sumOf}
 use Rattle.bench.specs.Boards.{rowsAdded, rows-more}
-use Rattle.bench.proofs.Arrays.{length-mapped, read-within}
+use Rattle.network.specs.laws.Arrays.{length-mapped, read-within}
 use borrow.Author.Needs.{needs}
 use Rattle.bench.proofs.with_rows.Statement.{statement}
 use Rattle.bench.proofs.with_rows.Tie as tie

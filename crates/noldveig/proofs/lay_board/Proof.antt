@@ -12,7 +12,7 @@ use Rattle.network.specs.declared.query.Found.{Found}
 use Rattle.printing.specs.Line.{room}
 use Rattle.noldveig.specs.Rows.{busRow, rowsText}
 use Rattle.noldveig.specs.laws.Rows.{rows-more}
-use Rattle.noldveig.proofs.Arrays.{length-mapped, read-within}
+use Rattle.network.specs.laws.Arrays.{length-mapped, read-within}
 use borrow.Author.Needs.{needs}
 use Rattle.noldveig.proofs.lay_board.Statement.{statement}
 use Rattle.noldveig.proofs.lay_board.Tie as tie

@@ -1,4 +1,5 @@
--- Arrays as lists: their length, and what is read from them.
+-- An array in a struct has as many elements as its list of data tuples, and what is read within an array does not depend on what would be
+-- read past its end. Assumes nothing.
 use mathlib.Core.Path.{_≡_, refl, sym, _∙_}
 use mathlib.Core.List.{List, [], _∷_, map}
 use Prim.Native.Nat.{ℕ, zero, suc, _<_}
