@@ -3,10 +3,27 @@ use Prim.Native.Nat.{ℕ, _+_, _*_, _-_, _/_}
 use mathlib.Core.Bool.{Bool, true, false, cond, _&&_}
 use mathlib.Core.List.{List, [], _∷_}
 use lib.Dec.{leb, ltb, eqb}
-use lib.ListN.{length}
+use lib.ListN.{length, getD}
+use Rattle.reader.specs.File.{cr}
+use Rattle.console.specs.declared.input.Cursor.{Cursor}
+use Rattle.console.specs.declared.input.Step.{Step}
 use Rattle.console.specs.declared.hex.Decoded.{Decoded}
 use Rattle.console.specs.declared.hex.Decoded.the-variants.{Bytes, Broken}
 
+-- ---- a line out of the input, which comes in blocks of 4,096 bytes
+-- whether a byte of the block is left
+unfoldable pub byteLeft : Cursor → Bool
+byteLeft c = ltb (c .at) (c .filled) && ltb (c .at) 4096
+
+-- the byte at a place of a block that holds `filled` bytes, the input's end where it holds none, and the place behind it
+unfoldable pub stepAt : List ℕ → ℕ → ℕ → Step
+stepAt block at filled = record { ended = eqb filled 0; byte = getD block at 0; cursor = record { at = at + 1; filled = filled } }
+
+-- the length of a line without the CR that ends it. Of a line that fills its room, and so is too long, the end is not kept
+unfoldable pub withoutReturn : List ℕ → ℕ → ℕ
+withoutReturn line size = cond ((ltb 0 size && ltb size 140002) && eqb (getD line (size - 1) 0) cr) (size - 1) size
+
+-- ---- what a line says
 -- whether a line begins with a word, and whether it is that word
 abbrev pub beginsWith : List ℕ → List ℕ → Bool
 beginsWith [] line = true

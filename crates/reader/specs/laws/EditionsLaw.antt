@@ -18,7 +18,7 @@ use Rattle.network.specs.Grounds.{first, busGrounds, busNumberIn, afterBusIn, s
 use Rattle.network.specs.laws.Tests.{by-test, both-true}
 use Rattle.reader.specs.declared.Row.{Row}
 use Rattle.reader.specs.declared.Row.the-variants.{Start, WithBus, WithSource, Malformed}
-use Rattle.reader.specs.File.{maxBytes, comma, letterS, letterB, letterP, busFields, sourceFields, rows, fields, allNumbers, amounts, recordOf, fieldsRow, rowOf, rowNumberIn, afterRowIn, Outcome, refusedAt, readFromIn, readIn}
+use Rattle.reader.specs.File.{maxBytes, comma, letterS, letterB, letterP, busCountOk, sourceCountOk, rows, fields, allNumbers, amounts, recordOf, fieldsRow, rowOf, rowNumberIn, afterRowIn, Outcome, refusedAt, readFromIn, readIn}
 use Rattle.reader.specs.laws.Editions.{Raised, lettered, tooMany, surplusAfter, firstSurplus, MetAt}
 
 -- ---- one record, tried by two editions
@@ -133,11 +133,11 @@ record-begins true letter v r e =
     (λ t. rw t (refl, e ∙ eqb-true letter letterS (both-true (eqb letter letterS) (eqb (length v) 1) t .0)))
     (λ t. rw t tt)
 record-begins false letter v r e =
-    by-test (eqb letter letterB && eqb (length v) busFields)
-    (λ t. rw t (e ∙ eqb-true letter letterB (both-true (eqb letter letterB) (eqb (length v) busFields) t .0)))
+    by-test (eqb letter letterB && busCountOk (length v))
+    (λ t. rw t (e ∙ eqb-true letter letterB (both-true (eqb letter letterB) (busCountOk (length v)) t .0)))
     (λ t. rw t
-    (by-test (eqb letter letterP && eqb (length v) sourceFields)
-    (λ u. rw u (e ∙ eqb-true letter letterP (both-true (eqb letter letterP) (eqb (length v) sourceFields) u .0)))
+    (by-test (eqb letter letterP && sourceCountOk (length v))
+    (λ u. rw u (e ∙ eqb-true letter letterP (both-true (eqb letter letterP) (sourceCountOk (length v)) u .0)))
     (λ u. rw u tt)))
 
 row-begins : (top : Bool) (r : List ℕ) → Begins top r (rowOf top r)
