@@ -1,4 +1,5 @@
--- How a line is taken apart, by README, "Answers": the word that it begins with, and text in hexadecimal digits. Definitions alone.
+-- How a line comes out of the input, byte by byte and without its end, and how it is taken apart, by README, "Answers": the word that it
+-- begins with, and text in hexadecimal digits. Definitions alone.
 use Prim.Native.Nat.{ℕ, _+_, _*_, _-_, _/_}
 use mathlib.Core.Bool.{Bool, true, false, cond, _&&_}
 use mathlib.Core.List.{List, [], _∷_}
