@@ -5,6 +5,7 @@ use mathlib.Core.Bool.{Bool, true, false, cond, _&&_}
 use mathlib.Core.List.{List, [], _∷_}
 use lib.Dec.{leb, ltb, eqb}
 use lib.ListN.{length, getD}
+use Rattle.network.specs.Records.{inRange}
 use Rattle.reader.specs.File.{cr}
 use Rattle.console.specs.declared.input.Cursor.{Cursor}
 use Rattle.console.specs.declared.input.Step.{Step}
@@ -35,11 +36,8 @@ abbrev pub isWord : List ℕ → List ℕ → Bool
 isWord word line = eqb (length line) (length word) && beginsWith word line
 
 -- a byte as a hexadecimal digit, of either case; 16 where it is none
-abbrev pub within : ℕ → ℕ → ℕ → Bool
-within first last x = leb first x && leb x last
-
 unfoldable pub hexValue : ℕ → ℕ
-hexValue x = cond (within 48 57 x) (x - 48) (cond (within 65 70 x) (x - 55) (cond (within 97 102 x) (x - 87) 16))
+hexValue x = cond (inRange x 48 57) (x - 48) (cond (inRange x 65 70) (x - 55) (cond (inRange x 97 102) (x - 87) 16))
 
 -- whether a text is pairs of digits, and the bytes that they are
 abbrev pub hexPairs : List ℕ → Bool

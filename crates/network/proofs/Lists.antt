@@ -29,14 +29,14 @@ module _ {X : Type 0} (cap n : ℕ) (l : List X) (whole : length l ≡ cap) wher
   below-count h = omega (arith, length-take n l)
 
   -- a place that is counted is within the count and within the array, and the record there is the array's
-  pub within-count : (i : ℕ) → i < length (take n l) → i < n
-  within-count i h = omega (arith, length-take n l)
+  pub inside-count : (i : ℕ) → i < length (take n l) → i < n
+  inside-count i h = omega (arith, length-take n l)
 
-  pub within-array : (i : ℕ) → i < length (take n l) → i < cap
-  within-array i h = omega (arith, length-take n l)
+  pub inside-array : (i : ℕ) → i < length (take n l) → i < cap
+  inside-array i h = omega (arith, length-take n l)
 
   pub read-counted : (i : ℕ) (d : X) → i < length (take n l) → getD l i d ≡ getD (take n l) i d
-  read-counted i d h = sym (getD-take n l i d (within-count i h))
+  read-counted i d h = sym (getD-take n l i d (inside-count i h))
 
   -- past the count, and past the array, nothing is read
   pub past-count : (i : ℕ) (d : X) → n ≤ i → getD (take n l) i d ≡ d

@@ -1,4 +1,4 @@
 mod Bytes
-mod Gathering
+mod Collecting
 mod Records
 mod Taking

@@ -10,12 +10,13 @@ use lib.Dec.{leb, ltb, eqb}
 use lib.ListN.{length, take, drop, set, getD, drop-of-length-le}
 use lib.Seq.{drop-cons, take-suc-set, append-snoc}
 use borrow.Author.Tests.{ltb-true, ltb-false, eq-eqb, ne-eqb, lt-ltb, le-ltb, le-leb, lt-leb}
+use Rattle.network.specs.Records.{inRange}
 use Rattle.network.specs.laws.Tests.{by-test}
 use Rattle.console.specs.declared.hex.Decoded.the-variants.{Bytes, Broken}
 use Rattle.console.specs.declared.input.Cursor.{Cursor}
 use Rattle.console.specs.declared.input.Step.{Step}
 use Rattle.console.specs.Answers.{hexDigit, hexText}
-use Rattle.console.specs.Lines.{byteLeft, stepAt, beginsWith, within, hexValue, hexPairs, hexBytes, decodedOf}
+use Rattle.console.specs.Lines.{byteLeft, stepAt, beginsWith, hexValue, hexPairs, hexBytes, decodedOf}
 
 append-nil : (l : List ℕ) → l ++ [] ≡ l
 append-nil [] = refl
@@ -63,13 +64,13 @@ pub begins-all : (word line : List ℕ) (i : ℕ) → length word ≤ i → begi
 begins-all word line i h = rw (drop-of-length-le word {i = i} h)
 
 -- ---- a digit
-inside : (first last x : ℕ) → first ≤ x → x ≤ last → within first last x ≡ true
+inside : (first last x : ℕ) → first ≤ x → x ≤ last → inRange x first last ≡ true
 inside first last x h k = rw (le-leb first x h, le-leb x last k)
 
-before : (first last x : ℕ) → x < first → within first last x ≡ false
+before : (first last x : ℕ) → x < first → inRange x first last ≡ false
 before first last x h = rw (lt-leb first x h)
 
-past : (first last x : ℕ) → first ≤ x → last < x → within first last x ≡ false
+past : (first last x : ℕ) → first ≤ x → last < x → inRange x first last ≡ false
 past first last x h k = rw (le-leb first x h, lt-leb x last k)
 
 pub digit-number : (x : ℕ) → 48 ≤ x → x ≤ 57 → x - 48 ≡ hexValue x

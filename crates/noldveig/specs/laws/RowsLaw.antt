@@ -40,11 +40,11 @@ module _ (text : List ℕ) (e : readOf text .number ≡ 0) (b : ℕ) (l : b < le
   there : b < maxBuses
   there = let h = subst (λ (n : Network). b < length (n .buses)) (read-run text e) l in omega (arith, few-buses (run-rebuilt (calls text)))
 
-  given : rowAt (rowsGiven (readOf text .network)) b ≡ foundGiven (readOf text .network) b
-  given = row-given (readOf text .network) (rowsGiven (readOf text .network)) refl b there
+  row-same : rowAt (rowsGiven (readOf text .network)) b ≡ foundGiven (readOf text .network) b
+  row-same = row-given (readOf text .network) (rowsGiven (readOf text .network)) refl b there
 
   kept : Kept (run (calls text)) b (rowAt (rowsGiven (readOf text .network)) b)
-  kept = read-kept text e b l _ given
+  kept = read-kept text e b l _ row-same
 
   -- FROM THE BYTES TO THE ROW: of an accepted text, what `put_bus` makes of the answer that `query_all` has at the place of bus b
   pub row-holds : let f = rowAt (rowsGiven (readOf text .network)) b in RowHolds (run (calls text)) b (f .amperes) (busRow b (f .amperes) (f .verdict))

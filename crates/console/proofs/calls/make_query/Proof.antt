@@ -27,8 +27,8 @@ returns c =
     let before = then .before .before .before in
     let n = network (before .before .before .args .s) in
     let found = c .query .ensures in
-    let given = found-given _ n _ (found .0) (found .1 .0) (found .1 .1 .0) in
-    let line = ap {B = Effect} (λ (f : Found). record { answer = foundLine f; network = n }) given in
+    let same = found-given _ n _ (found .0) (found .1 .0) (found .1 .1 .0) in
+    let line = ap {B = Effect} (λ (f : Found). record { answer = foundLine f; network = n }) same in
     (refl, λ text. line ∙ numbers-taken (exactly 1) (queryBy n) n _ _ (before .numbers-of .ensures) _ (then .before .takes .ensures) (then .if1 .taken))
 
 reason-of-requires : tie.Need-reason-of-requires
