@@ -5,8 +5,8 @@ use mathlib.Core.List.{List, [], _∷_, _++_}
 use lib.Dec.{ltb}
 use lib.ListN.{take, drop}
 use Rattle.network.specs.declared.query.Found.{Found}
-use Rattle.printing.specs.Printed.{wholeOf, amountOf, comma, decimal, nextText, amperesText, letterText}
-use Rattle.reader.specs.File.{lf}
+use Rattle.printing.specs.Printed.{wholeOf, amountOf, decimal, nextText, amperesText, letterText}
+use Rattle.reader.specs.File.{lf, comma}
 
 -- the bytes of `error,`
 abbrev pub error : List ℕ

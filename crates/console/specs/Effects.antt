@@ -9,8 +9,8 @@ use Rattle.network.specs.Network.{Network, network}
 use Rattle.network.specs.Grounds.{startNumber, startNetwork, busNumber, afterBus, sourceNumber, afterSource, closeNumber, afterClose}
 use Rattle.network.specs.Query.{foundGiven}
 use Rattle.reader.specs.declared.Numbers.{Numbers}
-use Rattle.reader.specs.File.{busFields, sourceFields, mostFields, fields, busOf, sourceOf, Outcome, readOf}
-use Rattle.reader.specs.Gathered.{gathered}
+use Rattle.reader.specs.File.{mostFields, busCountOk, sourceCountOk, fields, busOf, sourceOf, Outcome, readOf}
+use Rattle.reader.specs.Collected.{collected}
 use Rattle.writer.specs.Writing.{writeNumber, writeLength, afterWrite}
 use Rattle.console.specs.declared.turns.Reason.{Reason}
 use Rattle.console.specs.declared.turns.Reason.the-variants.{Fields, Number, Hex, Room, Unknown, Long}
@@ -54,14 +54,18 @@ wrong reason n = record { answer = errorLine (reasonText reason); network = n }
 abbrev pub ground : ℕ → Network → Effect
 ground number n = record { answer = numberLine number; network = n }
 
--- so many numbers behind a word, and all of them numbers; where not, a field is no number, unless there are too many before it
-abbrev pub counted : Numbers → ℕ → Bool
-counted v wanted = v .ok && eqb (v .count) wanted
+-- as many numbers behind a word as a test wants, and all of them numbers; where not, a field is no number, unless there are too many
+-- before it
+abbrev pub exactly : ℕ → ℕ → Bool
+exactly wanted count = eqb count wanted
+
+abbrev pub counted : Numbers → (ℕ → Bool) → Bool
+counted v wanted = v .ok && wanted (v .count)
 
 abbrev pub reasonOf : Numbers → Reason
 reasonOf v = cond (v .ok || eqb (v .count) mostFields) Fields Number
 
-unfoldable pub numbered : ℕ → (List ℕ → Effect) → Network → Numbers → Effect
+unfoldable pub numbered : (ℕ → Bool) → (List ℕ → Effect) → Network → Numbers → Effect
 numbered wanted call n v = cond (counted v wanted) (call (v .values)) (wrong (reasonOf v) n)
 
 -- "`start,T`"
@@ -69,21 +73,21 @@ abbrev pub startBy : List ℕ → Effect
 startBy v = ground (startNumber (getD v 0 0)) (startNetwork (getD v 0 0))
 
 abbrev pub startEffect : Network → List ℕ → Effect
-startEffect n rest = numbered 1 startBy n (gathered (fields rest))
+startEffect n rest = numbered (exactly 1) startBy n (collected (fields rest))
 
 -- "`bus,` and ten numbers"
 abbrev pub busBy : Network → List ℕ → Effect
 busBy n v = ground (busNumber n (busOf v)) (afterBus n (busOf v))
 
 abbrev pub busEffect : Network → List ℕ → Effect
-busEffect n rest = numbered busFields (busBy n) n (gathered (fields rest))
+busEffect n rest = numbered busCountOk (busBy n) n (collected (fields rest))
 
 -- "`source,` and seven numbers"
 abbrev pub sourceBy : Network → List ℕ → Effect
 sourceBy n v = ground (sourceNumber n (sourceOf v)) (afterSource n (sourceOf v))
 
 abbrev pub sourceEffect : Network → List ℕ → Effect
-sourceEffect n rest = numbered sourceFields (sourceBy n) n (gathered (fields rest))
+sourceEffect n rest = numbered sourceCountOk (sourceBy n) n (collected (fields rest))
 
 -- "`close`"
 abbrev pub closeEffect : Network → Effect
@@ -94,7 +98,7 @@ abbrev pub queryBy : Network → List ℕ → Effect
 queryBy n v = record { answer = foundLine (foundGiven n (getD v 0 0)); network = n }
 
 abbrev pub queryEffect : Network → List ℕ → Effect
-queryEffect n rest = numbered 1 (queryBy n) n (gathered (fields rest))
+queryEffect n rest = numbered (exactly 1) (queryBy n) n (collected (fields rest))
 
 -- "`read,HEX`": "number and row"
 abbrev pub readBy : Outcome → Effect
@@ -111,7 +115,7 @@ abbrev pub writeBy : Network → List ℕ → Effect
 writeBy n v = cond (leb (getD v 0 0) 70000) (writeInto n (getD v 0 0)) (wrong Room n)
 
 abbrev pub writeEffect : Network → List ℕ → Effect
-writeEffect n rest = numbered 1 (writeBy n) n (gathered (fields rest))
+writeEffect n rest = numbered (exactly 1) (writeBy n) n (collected (fields rest))
 
 -- the bytes of the words, each with its comma but `close`
 abbrev pub startWord : List ℕ

@@ -1,12 +1,31 @@
--- How a line is taken apart, by README, "Answers": the word that it begins with, and text in hexadecimal digits. Definitions alone.
+-- How a line comes out of the input, byte by byte and without its end, and how it is taken apart, by README, "Answers": the word that it
+-- begins with, and text in hexadecimal digits. Definitions alone.
 use Prim.Native.Nat.{ℕ, _+_, _*_, _-_, _/_}
 use mathlib.Core.Bool.{Bool, true, false, cond, _&&_}
 use mathlib.Core.List.{List, [], _∷_}
 use lib.Dec.{leb, ltb, eqb}
-use lib.ListN.{length}
+use lib.ListN.{length, getD}
+use Rattle.network.specs.Records.{inRange}
+use Rattle.reader.specs.File.{cr}
+use Rattle.console.specs.declared.input.Cursor.{Cursor}
+use Rattle.console.specs.declared.input.Step.{Step}
 use Rattle.console.specs.declared.hex.Decoded.{Decoded}
 use Rattle.console.specs.declared.hex.Decoded.the-variants.{Bytes, Broken}
 
+-- ---- a line out of the input, which comes in blocks of 4,096 bytes
+-- whether a byte of the block is left
+unfoldable pub byteLeft : Cursor → Bool
+byteLeft c = ltb (c .at) (c .filled) && ltb (c .at) 4096
+
+-- the byte at a place of a block that holds `filled` bytes, the input's end where it holds none, and the place behind it
+unfoldable pub stepAt : List ℕ → ℕ → ℕ → Step
+stepAt block at filled = record { ended = eqb filled 0; byte = getD block at 0; cursor = record { at = at + 1; filled = filled } }
+
+-- the length of a line without the CR that ends it. Of a line that fills its room, and so is too long, the end is not kept
+unfoldable pub withoutReturn : List ℕ → ℕ → ℕ
+withoutReturn line size = cond ((ltb 0 size && ltb size 140002) && eqb (getD line (size - 1) 0) cr) (size - 1) size
+
+-- ---- what a line says
 -- whether a line begins with a word, and whether it is that word
 abbrev pub beginsWith : List ℕ → List ℕ → Bool
 beginsWith [] line = true
@@ -17,11 +36,8 @@ abbrev pub isWord : List ℕ → List ℕ → Bool
 isWord word line = eqb (length line) (length word) && beginsWith word line
 
 -- a byte as a hexadecimal digit, of either case; 16 where it is none
-abbrev pub within : ℕ → ℕ → ℕ → Bool
-within first last x = leb first x && leb x last
-
 unfoldable pub hexValue : ℕ → ℕ
-hexValue x = cond (within 48 57 x) (x - 48) (cond (within 65 70 x) (x - 55) (cond (within 97 102 x) (x - 87) 16))
+hexValue x = cond (inRange x 48 57) (x - 48) (cond (inRange x 65 70) (x - 55) (cond (inRange x 97 102) (x - 87) 16))
 
 -- whether a text is pairs of digits, and the bytes that they are
 abbrev pub hexPairs : List ℕ → Bool

@@ -7,7 +7,7 @@ ghost use lib.ListN.{length, replicate};
 ghost use Rattle.network.specs.Network.{network};
 ghost use Rattle.writer.specs.Writing.{writeNumber, writeLength, afterWrite};
 ghost use Rattle.console.specs.Answers.{filler};
-ghost use Rattle.console.specs.Effects.{effectOf, counted, reasonOf, startEffect, busEffect, sourceEffect, closeEffect, queryEffect, readEffect, writeEffect, callEffect};
+ghost use Rattle.console.specs.Effects.{effectOf, exactly, counted, reasonOf, startEffect, busEffect, sourceEffect, closeEffect, queryEffect, readEffect, writeEffect, callEffect};
 use crate::hex::Decoded;
 use crate::hex::TEXT;
 use crate::hex::decode;
@@ -21,18 +21,18 @@ use crate::words::after;
 use crate::words::begins;
 use crate::words::is;
 use network::study::Study;
-use reader::BUS_FIELDS;
 use reader::MOST_FIELDS;
 use reader::Numbers;
-use reader::SOURCE_FIELDS;
+use reader::bus_count_ok;
 use reader::bus_of;
 use reader::numbers_of;
+use reader::source_count_ok;
 use reader::source_of;
 use writer::Written;
 
 // Whether these are so many numbers.
 fn takes(n: Numbers, wanted: usize) -> bool
-    ensures { λ r. ⌜ r ≡ counted n wanted ⌝ }
+    ensures { λ r. ⌜ r ≡ counted n (exactly wanted) ⌝ }
 {
     n.ok & (n.count == wanted)
 }
@@ -63,7 +63,7 @@ fn make_bus(s: Study, rest: &[u8]) -> Turn
 {
     let n = numbers_of(rest);
     let v = n.values;
-    if takes(n, BUS_FIELDS) {
+    if n.ok & bus_count_ok(n.count) {
         return answered(network::calls::add_bus(s, bus_of(v)));
     }
     failed(s, reason_of(n))
@@ -74,7 +74,7 @@ fn make_source(s: Study, rest: &[u8]) -> Turn
 {
     let n = numbers_of(rest);
     let v = n.values;
-    if takes(n, SOURCE_FIELDS) {
+    if n.ok & source_count_ok(n.count) {
         return answered(network::calls::add_source(s, source_of(v)));
     }
     failed(s, reason_of(n))

@@ -1,6 +1,8 @@
 // Lines of standard input, by way of a block of its bytes.
 ghost use mathlib.Core.Path.{_≡_};
+ghost use mathlib.Core.Bool.{true, false};
 ghost use lib.ListN.{take};
+ghost use Rattle.console.specs.Lines.{byteLeft, stepAt, withoutReturn};
 use libc::STDIN_FILENO;
 
 pub(crate) const BLOCK: usize = 4096;
@@ -34,7 +36,10 @@ fn refill(block: &mut [u8]) -> usize {
     io::count(got, block)
 }
 
-fn first_byte(block: &mut [u8; BLOCK]) -> Step {
+// The first byte of the block filled anew.
+fn first_byte(block: &mut [u8; BLOCK]) -> Step
+    ensures { λ r. ⌜ r ≡ stepAt (now (block .exit)) 0 (r .cursor .filled) ⌝ }
+{
     let filled = refill(block);
     Step {
         ended: filled == 0,
@@ -43,7 +48,12 @@ fn first_byte(block: &mut [u8; BLOCK]) -> Step {
     }
 }
 
-fn next_byte(block: &mut [u8; BLOCK], cursor: Cursor) -> Step {
+// The byte at the cursor, of the block as it is; where none is left there, the first of the block filled anew. No contract can say what is
+// read into it.
+fn next_byte(block: &mut [u8; BLOCK], cursor: Cursor) -> Step
+    ensures left { λ r. ⌜ (byteLeft cursor ≡ true → (r ≡ stepAt (now (block .entry)) (cursor .at) (cursor .filled)) × (now (block .exit) ≡ now (block .entry))) ⌝ }
+    ensures refilled { λ r. ⌜ (byteLeft cursor ≡ false → r ≡ stepAt (now (block .exit)) 0 (r .cursor .filled)) ⌝ }
+{
     let at = cursor.at;
     if at < cursor.filled {
         if at < BLOCK {
@@ -61,7 +71,9 @@ fn next_byte(block: &mut [u8; BLOCK], cursor: Cursor) -> Step {
 }
 
 // The length without a CR that ends the line.
-fn without_return(line: &[u8; LINE_ROOM], length: usize) -> usize {
+fn without_return(line: &[u8; LINE_ROOM], length: usize) -> usize
+    ensures { λ r. ⌜ r ≡ withoutReturn (now (line .entry)) length ⌝ }
+{
     if 0 < length {
         if length < LINE_ROOM {
             if line[length - 1] == b'\r' {

@@ -1,6 +1,6 @@
 -- The records that are counted, as the first ones of the array that holds them.
-use mathlib.Core.Path.{_≡_, refl, sym, ap, _∙_}
-use mathlib.Core.List.{List, [], _∷_, _++_, map}
+use mathlib.Core.Path.{_≡_, refl, sym, ap}
+use mathlib.Core.List.{List, [], _∷_, _++_}
 use Prim.Native.Nat.{ℕ, zero, suc, _+_, _≤_, _<_}
 use native.Mathlib.Omega.{arith}
 use native.Mathlib.Numerals.{add-one}
@@ -8,12 +8,9 @@ use lib.Dec.{ltb}
 use borrow.Author.Tests.{ltb-true, ltb-false, lt-ltb, le-ltb}
 use mathlib.Core.Bool.{_&&_}
 use Rattle.network.specs.laws.Tests.{by-test}
-use lib.ListN.{length, take, set, getD, length-map, length-take, List·getD-eq-default}
+use lib.ListN.{length, take, set, getD, length-take, List·getD-eq-default}
 use lib.Seq.{take-suc-set, getD-take}
-
--- the length of an array in a struct, from what owning the struct tells of its list of data tuples
-pub length-mapped : {X Y : Type 0} (f : X → Y) (l : List X) (n : ℕ) → length (map f l) ≡ n → length l ≡ n
-length-mapped f l n e = sym (length-map l f) ∙ e
+pub use Rattle.network.specs.laws.Arrays.{length-mapped}
 
 -- as many records as are counted are the counted ones
 pub counted-again : {X : Type 0} (n : ℕ) (l : List X) → take (length (take n l)) l ≡ take n l
@@ -36,14 +33,14 @@ module _ {X : Type 0} (cap n : ℕ) (l : List X) (whole : length l ≡ cap) wher
   below-count h = omega (arith, length-take n l)
 
   -- a place that is counted is within the count and within the array, and the record there is the array's
-  pub within-count : (i : ℕ) → i < length (take n l) → i < n
-  within-count i h = omega (arith, length-take n l)
+  pub inside-count : (i : ℕ) → i < length (take n l) → i < n
+  inside-count i h = omega (arith, length-take n l)
 
-  pub within-array : (i : ℕ) → i < length (take n l) → i < cap
-  within-array i h = omega (arith, length-take n l)
+  pub inside-array : (i : ℕ) → i < length (take n l) → i < cap
+  inside-array i h = omega (arith, length-take n l)
 
   pub read-counted : (i : ℕ) (d : X) → i < length (take n l) → getD l i d ≡ getD (take n l) i d
-  read-counted i d h = sym (getD-take n l i d (within-count i h))
+  read-counted i d h = sym (getD-take n l i d (inside-count i h))
 
   -- the test whether a place is counted
   pub counted-test : (i : ℕ) → ltb i (length (take n l)) ≡ ltb i n && ltb i cap

@@ -89,13 +89,23 @@ amperesOf f = record {
 }
 
 -- "Over, by P − rated peak, if P exceeds it; otherwise over, by L − rating, if L exceeds it; within, with margin rating − U, if
--- U ≤ rating; otherwise close."
-abbrev pub verdictOn : ℕ → ℕ → ℕ → ℕ → ℕ → Verdict
-verdictOn L U P rating peakRating =
-    cond (ltb peakRating P) (Over (ofNat (P - peakRating)))
-    (cond (ltb rating L) (Over (ofNat (L - rating)))
-    (cond (leb U rating) (Within (ofNat (rating - U)))
-    Close))
+-- U ≤ rating; otherwise close.": of six whole numbers and two ratings, with whatever stands for the three cases
+abbrev pub judged : {X : Type 0} → (ℕ → X) → (ℕ → X) → X → Figures → ℕ → ℕ → X
+judged over within close f rating peakRating =
+    let L = f .lower + f .«converters_lower» in
+    let U = f .upper + f .«converters_upper» in
+    let P = f .peak + f .«converters_peak» in
+    cond (ltb peakRating P) (over (P - peakRating))
+    (cond (ltb rating L) (over (L - rating))
+    (cond (leb U rating) (within (rating - U))
+    close))
+
+-- THE VERDICT, its amperes as f64; and at bus b of a network, by the two ratings there
+abbrev pub verdictOn : Figures → ℕ → ℕ → Verdict
+verdictOn = judged (λ excess. Over (ofNat excess)) (λ margin. Within (ofNat margin)) Close
+
+abbrev pub verdictAt : Network → ℕ → Figures → Verdict
+verdictAt n b f = verdictOn f (busAt (n .buses) b .rating) (busAt (n .buses) b .«peak_rating»)
 
 -- each verdict's letter in the file: "W, O or C (within, over, close)"
 abbrev pub letterOf : Verdict → ℕ

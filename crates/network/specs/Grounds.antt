@@ -7,7 +7,7 @@ use lib.Dec.{leb, ltb, eqb}
 use lib.ListN.{length}
 use Rattle.network.specs.declared.study.Bus.{Bus}
 use Rattle.network.specs.declared.study.Source.{Source}
-use Rattle.network.specs.Records.{within, toleranceOk, voltsOk, ratingOk, branchOk, ratedOk}
+use Rattle.network.specs.Records.{inRange, toleranceOk, voltsOk, ratingOk, branchOk, ratedOk}
 use Rattle.network.specs.SourceKinds.{isFeeder, sourceKindOk, fieldsOk, isRated, machineVolts}
 use Rattle.network.specs.Network.{Network, openOf, withBus, withSource, closedAs, busAt, parentRecord, depthOf, transformersOf}
 use Rattle.tree.specs.Limits.{Limits, here, maxBranches, maxTransformers}
@@ -47,7 +47,7 @@ parentOk i b = atZero i (eqb (b .parent) 0) (ltb (b .parent) i)
 
 -- "4 branch kind.": 0 at bus 0, a line or a transformer at any other
 abbrev pub kindOk : ℕ → Bus → Bool
-kindOk i b = atZero i (eqb (b .kind) 0) (within (b .kind) 1 2)
+kindOk i b = atZero i (eqb (b .kind) 0) (inRange (b .kind) 1 2)
 
 -- "6 line between unequal voltages."
 abbrev pub lineVoltsOk : Bus → Bus → Bool

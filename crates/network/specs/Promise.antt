@@ -3,17 +3,17 @@
 -- alike in all but its converters gets the same machines' figures. That every query keeps it is proved in laws/Promise.
 use mathlib.Core.Path.{_≡_}
 use lib.Ieee.{Float}
-use Prim.Native.Nat.{ℕ, _+_, _<_}
+use Prim.Native.Nat.{ℕ, _<_}
 use mathlib.Core.Bool.{true}
 use mathlib.Core.List.{List}
 use lib.ListN.{length}
 use Rattle.tree.specs.Grid.{filtered}
 use Rattle.network.specs.declared.query.Amperes.{Amperes}
-use Rattle.network.specs.Network.{Network, busAt}
+use Rattle.network.specs.Network.{Network}
 use Rattle.network.specs.SourceKinds.{isMachine}
 use Rattle.network.specs.declared.query.Found.{Found}
 use Rattle.network.specs.Grounds.{Call, run}
-use Rattle.network.specs.Demand.{Figures, WholeAmperes, Demand, verdictOn}
+use Rattle.network.specs.Demand.{Figures, WholeAmperes, Demand, verdictAt}
 use Rattle.network.specs.Query.{amperesGiven}
 
 -- "Networks are alike in all but their converters when tolerance, buses and the other sources, in order, agree." The other sources are the
@@ -33,9 +33,8 @@ pub record Kept (n : Network) (b : ℕ) (f : Found) : Type 0 where
   pub accepted : f .number ≡ 0
   -- demand 3
   pub demand : Demand n b (f .amperes)
-  -- "Verdict": of the six whole numbers that the amperes are
-  pub verdict : (g : Figures) → WholeAmperes (f .amperes) g
-      → f .verdict ≡ verdictOn (g .lower + g .«converters_lower») (g .upper + g .«converters_upper») (g .peak + g .«converters_peak») (busAt (n .buses) b .rating) (busAt (n .buses) b .«peak_rating»)
+  -- "Verdict": on the six whole numbers that the amperes are
+  pub verdict : (g : Figures) → WholeAmperes (f .amperes) g → f .verdict ≡ verdictAt n b g
   -- demand 3: any two accepted networks alike in all but their converters get, at every bus, the same bounds and peak for the machines' part
   pub same : (ds : List Call) → run ds .closed ≡ true → Alike n (run ds) → machinesOf (f .amperes) ≡ machinesOf (amperesGiven (run ds) b)
 

@@ -7,8 +7,8 @@ use lib.Dec.{leb, ltb, eqb}
 use Rattle.network.specs.declared.study.Bus.{Bus}
 
 -- low..high, both ends included; where low is 0 the upper end alone is tested
-abbrev pub within : ℕ → ℕ → ℕ → Bool
-within x low high = leb low x && leb x high
+abbrev pub inRange : ℕ → ℕ → ℕ → Bool
+inRange x low high = leb low x && leb x high
 
 -- every test of a list
 abbrev pub allFrom : Bool → List Bool → Bool
@@ -25,11 +25,11 @@ toleranceOk t = eqb t 6 || eqb t 10
 
 -- "nominal volts Un 100..420,000"
 abbrev pub voltsOk : Bus → Bool
-voltsOk b = within (b .volts) 100 420000
+voltsOk b = inRange (b .volts) 100 420000
 
 -- "rated initial amperes 1..1,000,000; rated peak amperes 1..3,000,000"
 abbrev pub ratingOk : Bus → Bool
-ratingOk b = within (b .rating) 1 1000000 && within (b .«peak_rating») 1 3000000
+ratingOk b = inRange (b .rating) 1 1000000 && inRange (b .«peak_rating») 1 3000000
 
 -- "Bus 0 has parent 0, kind 0, branch fields 0": the branch fields
 abbrev pub noBranchTests : Bus → List Bool
@@ -41,15 +41,15 @@ lineTests b =
     leb (b .f1) 100000
     ∷ leb (b .f2) 100000
     ∷ not (eqb (b .f1) 0 && eqb (b .f2) 0)
-    ∷ within (b .f3) 1 200000
-    ∷ within (b .f4) 1 8
+    ∷ inRange (b .f3) 1 200000
+    ∷ inRange (b .f4) 1 8
     ∷ eqb (b .f5) 0
     ∷ []
 
 -- "Kind 2, transformer: rated volts on the parent's side, rated volts on the bus's own side; kVA 10..1,000,000; uk 100..30,000;
 -- uR from 0 to uk − 1". The rated volts are held to the nominal ones alone, by ground 7.
 abbrev pub transformerTests : Bus → List Bool
-transformerTests b = within (b .f3) 10 1000000 ∷ within (b .f4) 100 30000 ∷ ltb (b .f5) (b .f4) ∷ []
+transformerTests b = inRange (b .f3) 10 1000000 ∷ inRange (b .f4) 100 30000 ∷ ltb (b .f5) (b .f4) ∷ []
 
 -- the branch fields, by the kind
 unfoldable pub branchOk : Bus → Bool

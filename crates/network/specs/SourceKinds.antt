@@ -8,7 +8,7 @@ use lib.Dec.{leb, eqb}
 use Rattle.enclosure.specs.Exact.{Point, nothing}
 use Rattle.elements.specs.Impedance as impedance
 use Rattle.network.specs.declared.study.Source.{Source}
-use Rattle.network.specs.Records.{within, all}
+use Rattle.network.specs.Records.{inRange, all}
 
 -- ---- the kinds by their numbers
 abbrev pub isFeeder : Source → Bool
@@ -25,7 +25,7 @@ isConverter p = eqb (p .kind) 4
 
 -- "10 source kind."
 abbrev pub sourceKindOk : Source → Bool
-sourceKindOk p = within (p .kind) 1 4
+sourceKindOk p = inRange (p .kind) 1 4
 
 -- "1/Z of each feeder, generator and motor": the machines are all sources but the converters (`machine-named`)
 abbrev pub isMachine : Source → Bool
@@ -42,7 +42,7 @@ ratioOk ρ = leb ρ 200
 
 -- "1, feeder: short-circuit kVA 1,000..100,000,000; ρ; 0; 0; 0."
 abbrev pub feederTests : Source → List Bool
-feederTests p = within (p .f1) 1000 100000000 ∷ ratioOk (p .f2) ∷ eqb (p .f3) 0 ∷ eqb (p .f4) 0 ∷ eqb (p .f5) 0 ∷ []
+feederTests p = inRange (p .f1) 1000 100000000 ∷ ratioOk (p .f2) ∷ eqb (p .f3) 0 ∷ eqb (p .f4) 0 ∷ eqb (p .f5) 0 ∷ []
 
 -- "Feeder: Z = c·Un²/(1,000·kVA), split by f."
 abbrev pub feederImpedance : ℕ → ℕ → Source → Point
@@ -51,7 +51,7 @@ feederImpedance tolerance Un p = impedance.feeder tolerance Un (p .f1) (p .f2)
 -- "2, generator: rated volts; kVA 10..1,000,000; xd 1,000..100,000 (thousandths of a percent); ρ; power factor 70..100 hundredths."
 -- The rated volts are held to the nominal ones alone, by ground 13.
 abbrev pub generatorTests : Source → List Bool
-generatorTests p = within (p .f2) 10 1000000 ∷ within (p .f3) 1000 100000 ∷ ratioOk (p .f4) ∷ within (p .f5) 70 100 ∷ []
+generatorTests p = inRange (p .f2) 10 1000000 ∷ inRange (p .f3) 1000 100000 ∷ ratioOk (p .f4) ∷ inRange (p .f5) 70 100 ∷ []
 
 -- "Generator: X = K_G·xd/100,000·Ur²/(1,000·kVA), R = X·ρ/100, .., c by its bus."
 abbrev pub generatorImpedance : ℕ → ℕ → Source → Point
@@ -59,7 +59,7 @@ generatorImpedance tolerance Un p = impedance.generator tolerance Un (p .f1) (p 
 
 -- "3, motor: rated volts; kVA 1..100,000; starting ratio 10..100 tenths; ρ; 0." The rated volts as a generator's.
 abbrev pub motorTests : Source → List Bool
-motorTests p = within (p .f2) 1 100000 ∷ within (p .f3) 10 100 ∷ ratioOk (p .f4) ∷ eqb (p .f5) 0 ∷ []
+motorTests p = inRange (p .f2) 1 100000 ∷ inRange (p .f3) 10 100 ∷ ratioOk (p .f4) ∷ eqb (p .f5) 0 ∷ []
 
 -- "Motor: Z = (10/ratio)·Ur²/(1,000·kVA), split by f."
 abbrev pub motorImpedance : Source → Point
@@ -67,7 +67,7 @@ motorImpedance p = impedance.motor (p .f1) (p .f2) (p .f3) (p .f4)
 
 -- "4, converter: rated current 1..100,000 tenths of an ampere; k 100..300 hundredths; 0; 0; 0."
 abbrev pub converterTests : Source → List Bool
-converterTests p = within (p .f1) 1 100000 ∷ within (p .f2) 100 300 ∷ eqb (p .f3) 0 ∷ eqb (p .f4) 0 ∷ eqb (p .f5) 0 ∷ []
+converterTests p = inRange (p .f1) 1 100000 ∷ inRange (p .f2) 100 300 ∷ eqb (p .f3) 0 ∷ eqb (p .f4) 0 ∷ eqb (p .f5) 0 ∷ []
 
 -- "rated current·k" of a converter, which has no impedance
 abbrev pub currentOf : Source → Point

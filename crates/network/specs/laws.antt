@@ -1,3 +1,4 @@
+pub mod Arrays
 pub mod Calls
 pub mod Tests
 pub mod SourceKinds

@@ -31,12 +31,12 @@ digitsOf (suc k) n = cond (ltb n 10) ((48 + n) ∷ []) (digitsOf k (n / 10) ++ (
 unfoldable pub decimal : ℕ → List ℕ
 decimal n = digitsOf 20 n
 
-abbrev pub comma : ℕ
-comma = 44
+abbrev pub separator : ℕ
+separator = 44
 
 -- "comma separated": a number that follows others
 unfoldable pub nextText : ℕ → List ℕ
-nextText n = comma ∷ decimal n
+nextText n = separator ∷ decimal n
 
 -- "the six amperes"
 unfoldable pub amperesText : Amperes → List ℕ
@@ -50,4 +50,4 @@ amperesText a =
 
 -- "W, O or C"
 unfoldable pub letterText : Verdict → List ℕ
-letterText v = comma ∷ letterOf v ∷ []
+letterText v = separator ∷ letterOf v ∷ []

@@ -1,5 +1,5 @@
 mod Bytes
-mod Gathering
+mod Collecting
 mod Records
 mod PartRows
 mod Taking

@@ -12,8 +12,8 @@ use Rattle.network.specs.laws.Tests.{by-test, both-true}
 use Rattle.reader.specs.declared.Numbers.{Numbers}
 use Rattle.reader.specs.declared.Row.the-variants.{Start, WithBus, WithSource, Malformed}
 use Rattle.reader.specs.File.{busFields, sourceFields, mostFields, busCountOk, sourceCountOk, comma, letterS, letterB, letterP, fields, allNumbers, amounts, busOf, sourceOf, recordOf, fieldsRow, rowOf}
-use Rattle.reader.specs.Gathered.{Filled}
-use Rattle.reader.specs.laws.Gathered.{Gathered}
+use Rattle.reader.specs.Collected.{Filled}
+use Rattle.reader.specs.laws.Collected.{Collected}
 
 -- ---- a letter and the first numbers of an array
 -- zeros behind them are the same as no numbers
@@ -51,7 +51,7 @@ module _ (letter count : ℕ) (v : List ℕ) (few : count ≤ mostFields) (fille
   unfolding recordOf
   no-record-row b e = rw (counted, b, e)
 
--- ---- the fields of a row, gathered
+-- ---- the fields of a row, collected
 length-amounts : (fs : List (List ℕ)) → length (amounts fs) ≡ length fs
 length-amounts [] = refl
 length-amounts (f ∷ fs) = omega (arith, length-amounts fs)
@@ -70,7 +70,7 @@ too-many false letter v h =
       last-false (eqb letter letterP) (ne-eqb (length v) sourceFields (λ e. omega arith)),
     )
 
-module _ (first : Bool) (letter : ℕ) (fs : List (List ℕ)) (r : Numbers) (g : Gathered fs r) where
+module _ (first : Bool) (letter : ℕ) (fs : List (List ℕ)) (r : Numbers) (g : Collected fs r) where
   pub fields-taken : r .ok ≡ true → fieldsRow first letter fs ≡ recordOf first letter (take (r .count) (r .values))
   unfolding fieldsRow
   fields-taken e =

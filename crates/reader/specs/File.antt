@@ -7,7 +7,7 @@ use lib.Dec.{ltb, eqb}
 use lib.ListN.{length, getD}
 use Rattle.network.specs.declared.study.Bus.{Bus}
 use Rattle.network.specs.declared.study.Source.{Source}
-use Rattle.network.specs.Records.{within}
+use Rattle.network.specs.Records.{inRange}
 use Rattle.network.specs.Network.{Network, network, Limits, here}
 use Rattle.network.specs.Grounds.{startNumber, startNetwork, busNumberIn, afterBusIn, sourceNumberIn, afterSourceIn, closeNumber, afterClose, Call, starting, addingBus, addingSource, closing, emptyNetwork}
 use Rattle.reader.specs.declared.Number.{Number}
@@ -83,11 +83,11 @@ fields (b ∷ bs) = cond (eqb b comma) ([] ∷ fields bs) (onFirst b (fields bs)
 -- ---- numbers
 -- "A number is 1 to 10 digits, no leading zero save 0 itself, below 2³².": the length and the first digit
 unfoldable pub lengthOk : List ℕ → Bool
-lengthOk f = within (length f) 1 10 && (eqb (length f) 1 || not (eqb (getD f 0 0) digit0))
+lengthOk f = inRange (length f) 1 10 && (eqb (length f) 1 || not (eqb (getD f 0 0) digit0))
 
 abbrev pub digits : List ℕ → Bool
 digits [] = true
-digits (b ∷ bs) = within b digit0 digit9 && digits bs
+digits (b ∷ bs) = inRange b digit0 digit9 && digits bs
 
 -- the number that digits make after those of n
 abbrev pub digitsValue : ℕ → List ℕ → ℕ
@@ -218,7 +218,7 @@ readFrom = readFromIn here
 
 -- "up to 65,536 bytes"; "for empty or overlong text, row 1"
 unfoldable pub readIn : Limits → List ℕ → Outcome
-readIn L text = cond (within (length text) 1 maxBytes) (readFromIn L 0 emptyNetwork (rows text)) (refusedAt 16 1)
+readIn L text = cond (inRange (length text) 1 maxBytes) (readFromIn L 0 emptyNetwork (rows text)) (refusedAt 16 1)
 
 -- WHAT A TEXT MEANS in this edition
 abbrev pub readOf : List ℕ → Outcome

@@ -1,6 +1,6 @@
 -- What contracts cite. What is proved of it is below `laws`.
 pub mod File
 pub mod Stretches
-pub mod Gathered
+pub mod Collected
 pub mod Parts
 pub mod laws

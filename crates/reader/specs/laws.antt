@@ -1,5 +1,5 @@
 pub mod Stretches
-pub mod Gathered
+pub mod Collected
 pub mod FileAsCalls
 pub mod RowLetters
 pub mod Editions

@@ -4,7 +4,7 @@ ghost use Prim.Native.Nat.{_+_, _≤_};
 ghost use lib.ListN.{length, drop};
 ghost use Rattle.reader.specs.File.{fields, lengthOk, valueOf, numberOf};
 ghost use Rattle.reader.specs.Stretches.{atComma, before, stretch};
-ghost use Rattle.reader.specs.Gathered.{gathered};
+ghost use Rattle.reader.specs.Collected.{collected};
 use crate::MOST_FIELDS;
 use crate::Number;
 use crate::Numbers;
@@ -91,7 +91,7 @@ pub(crate) fn number_of(field: &[u8]) -> Number
 
 // The numbers of a row's fields, in order. Not ok where a field is no number or where there are more than any row has.
 pub fn numbers_of(row: &[u8]) -> Numbers
-    ensures { λ r. ⌜ r ≡ gathered (fields (now (row .entry))) ⌝ }
+    ensures { λ r. ⌜ r ≡ collected (fields (now (row .entry))) ⌝ }
 {
     let mut values = [0u32; MOST_FIELDS];
     let mut count: usize = 0;

@@ -3,7 +3,7 @@ ghost use mathlib.Core.Path.{_≡_};
 ghost use Prim.Native.Nat.{_+_, _≤_, _<_};
 ghost use lib.ListN.{length, take, drop};
 ghost use Rattle.reader.specs.File.{mostFields, busCountOk, sourceCountOk, busOf, sourceOf, recordOf, rowOf};
-ghost use Rattle.reader.specs.Gathered.{Filled};
+ghost use Rattle.reader.specs.Collected.{Filled};
 ghost use Rattle.reader.specs.Stretches.{atCrlf, before};
 use crate::BUS_FIELDS;
 use crate::MOST_FIELDS;

@@ -5,7 +5,7 @@ use Prim.Native.Nat.{ℕ, zero, suc, _+_, _*_, _≤_, _<_}
 use native.Mathlib.Nat.{mul-suc}
 use native.Mathlib.Omega.{arith}
 use native.Mathlib.Numerals.{add-one}
-use lib.ListN.{length, set, take, drop, getD, length-append, length-map, drop-of-length-le}
+use lib.ListN.{length, set, take, drop, getD, length-append, drop-of-length-le}
 use lib.Seq.{length-take-le, drop-cons, getD-take}
 use Rattle.network.specs.Network.{Network}
 use Rattle.reader.specs.File.{cr, lf, comma, letterS, letterB, letterP}
@@ -88,10 +88,6 @@ module _ {X : Type 0} (letter : ℕ) (numbers : X → List ℕ) (array : List X)
         sym (ap (laid f) next-row ∙ laid-both f g (endedRow letter vs) (rowsFrom letter numbers array total (i + 1)) e refl)
 
 -- ---- the records of a study
--- the length of an array in a struct, from what owning the struct tells of its list of data tuples
-pub length-mapped : {X Y : Type 0} (f : X → Y) (l : List X) (n : ℕ) → length (map f l) ≡ n → length l ≡ n
-length-mapped f l n e = sym (length-map l f) ∙ e
-
 -- as many records of an array as are counted
 pub counted : {X : Type 0} (l array : List X) (total : ℕ) → total ≡ length l → take (length l) array ≡ l → take total array ≡ l
 counted l array total e same = rw e same

@@ -8,7 +8,7 @@ use Rattle.network.specs.Network.{maxBuses}
 use Rattle.network.specs.Network.{network}
 use Rattle.bench.specs.Queries.{sumsOf}
 use Rattle.bench.specs.Boards.{boardsOf, board-more}
-use Rattle.bench.proofs.Arrays.{length-mapped}
+use Rattle.network.specs.laws.Arrays.{length-mapped}
 use borrow.Author.Needs.{needs}
 use Rattle.bench.proofs.boards.Statement.{statement}
 use Rattle.bench.proofs.boards.Tie as tie

@@ -10,14 +10,14 @@ use Rattle.network.specs.Network.{maxBuses}
 use Rattle.network.specs.Query.{refusedBy, rowAt}
 use Rattle.bench.specs.Queries.{sumOf}
 use Rattle.bench.specs.Boards.{rowsAdded, rows-more}
-use Rattle.bench.proofs.Arrays.{length-mapped, read-within}
+use Rattle.network.specs.laws.Arrays.{length-mapped, read-inside}
 use borrow.Author.Needs.{needs}
 use Rattle.bench.proofs.with_rows.Statement.{statement}
 use Rattle.bench.proofs.with_rows.Tie as tie
 
 -- within the rows it does not matter what would be read past them
-row-within : (rows : List Found) (i : ℕ) (d : Found) → i < length rows → sumOf (getD rows i d .amperes) ≡ sumOf (rowAt rows i .amperes)
-row-within rows i d h = ap (λ (f : Found). sumOf (f .amperes)) (read-within rows i d (refusedBy 15) h)
+row-inside : (rows : List Found) (i : ℕ) (d : Found) → i < length rows → sumOf (getD rows i d .amperes) ≡ sumOf (rowAt rows i .amperes)
+row-inside rows i d h = ap (λ (f : Found). sumOf (f .amperes)) (read-inside rows i d (refusedBy 15) h)
 
 abbrev Inv-loop : tie.InvT-loop
 Inv-loop start n rows total₀ i₀ total i = (i ≤ n) × (total ≡ rowsAdded start rows i)
@@ -50,7 +50,7 @@ loop-again c =
     let a = l .before .args in
     let whole : length (a .t2) ≡ maxBuses = search (needs, length-mapped) in (
       omega arith,
-      ap₂ (add binary64) (l .loop .inv .1) (c .sum-of .ensures ∙ row-within (a .t2) (l .loop .i) _ (omega arith))
+      ap₂ (add binary64) (l .loop .inv .1) (c .sum-of .ensures ∙ row-inside (a .t2) (l .loop .i) _ (omega arith))
           ∙ sym (rows-more (a .start) (a .t2) (l .loop .i)),
     )
 

@@ -23,7 +23,7 @@ use Rattle.console.specs.Lines.{beginsWith, isWord, hexPairs, hexBytes, 
 use Rattle.console.specs.Effects.{Effect, wrong, counted, reasonOf, numbered, startEffect, busEffect, sourceEffect, closeEffect, queryEffect, readBy, readEffect, writeInto, writeBy, writeEffect, startWord, busWord, sourceWord, closeWord, queryWord, readWord, writeWord, behind, callEffect, lineEffect}
 
 -- ---- so many numbers, or not; v are those that the code has
-module _ (wanted : ℕ) (call : List ℕ → Effect) (n : Network) (v w : Numbers) (e : v ≡ w) (t : Bool) (h : t ≡ counted v wanted) where
+module _ (wanted : ℕ → Bool) (call : List ℕ → Effect) (n : Network) (v w : Numbers) (e : v ≡ w) (t : Bool) (h : t ≡ counted v wanted) where
   pub numbers-taken : t ≡ true → call (v .values) ≡ numbered wanted call n w
   unfolding numbered
   numbers-taken k = let y : counted v wanted ≡ true = sym h ∙ k in rw (← e, y)

@@ -1,5 +1,5 @@
--- Laws of lines: one byte more of a word, one pair of digits more, and that the digits which an answer has are read as their bytes.
--- Assumes nothing.
+-- Laws of lines: a byte that is left of a block, one byte more of a word, one pair of digits more, and that the digits which an answer has
+-- are read as their bytes. Assumes nothing.
 use Prim.Native.Nat.{ℕ, zero, suc, _+_, _*_, _-_, _/_, _%_, _≤_, _<_}
 use mathlib.Core.Path.{_≡_, refl, sym, _∙_, ap, ap₂}
 use mathlib.Core.Bool.{Bool, true, false, cond, _&&_}
@@ -10,13 +10,36 @@ use lib.Dec.{leb, ltb, eqb}
 use lib.ListN.{length, take, drop, set, getD, drop-of-length-le}
 use lib.Seq.{drop-cons, take-suc-set, append-snoc}
 use borrow.Author.Tests.{ltb-true, ltb-false, eq-eqb, ne-eqb, lt-ltb, le-ltb, le-leb, lt-leb}
+use Rattle.network.specs.Records.{inRange}
+use Rattle.network.specs.laws.Tests.{by-test}
 use Rattle.console.specs.declared.hex.Decoded.the-variants.{Bytes, Broken}
+use Rattle.console.specs.declared.input.Cursor.{Cursor}
+use Rattle.console.specs.declared.input.Step.{Step}
 use Rattle.console.specs.Answers.{hexDigit, hexText}
-use Rattle.console.specs.Lines.{beginsWith, within, hexValue, hexPairs, hexBytes, decodedOf}
+use Rattle.console.specs.Lines.{byteLeft, stepAt, beginsWith, hexValue, hexPairs, hexBytes, decodedOf}
 
 append-nil : (l : List ℕ) → l ++ [] ≡ l
 append-nil [] = refl
 append-nil (x ∷ l) = ap (λ (r : List ℕ). x ∷ r) (append-nil l)
+
+-- ---- the bytes of a block
+pub byte-left : (c : Cursor) → c .at < c .filled → c .at < 4096 → byteLeft c ≡ true
+unfolding byteLeft
+byte-left c h l = rw (lt-ltb (c .at) (c .filled) h, lt-ltb (c .at) 4096 l)
+
+pub past-filled : (c : Cursor) → c .filled ≤ c .at → byteLeft c ≡ false
+unfolding byteLeft
+past-filled c h = rw (le-ltb (c .at) (c .filled) h)
+
+pub past-block : (c : Cursor) → 4096 ≤ c .at → byteLeft c ≡ false
+unfolding byteLeft
+past-block c h = by-test (ltb (c .at) (c .filled)) (λ t. rw (t, le-ltb (c .at) 4096 h)) (λ t. rw t)
+
+-- a byte of a block that holds some is not the input's end
+pub step-held : (block : List ℕ) (at filled : ℕ) → 0 < filled
+    → _≡_ {A = Step} (record { ended = false; byte = getD block at 0; cursor = record { at = at + 1; filled = filled } }) (stepAt block at filled)
+unfolding stepAt
+step-held block at filled h = rw (ne-eqb filled 0 (λ e. omega arith))
 
 -- ---- words
 -- a line that is shorter does not begin with the word
@@ -41,13 +64,13 @@ pub begins-all : (word line : List ℕ) (i : ℕ) → length word ≤ i → begi
 begins-all word line i h = rw (drop-of-length-le word {i = i} h)
 
 -- ---- a digit
-inside : (first last x : ℕ) → first ≤ x → x ≤ last → within first last x ≡ true
+inside : (first last x : ℕ) → first ≤ x → x ≤ last → inRange x first last ≡ true
 inside first last x h k = rw (le-leb first x h, le-leb x last k)
 
-before : (first last x : ℕ) → x < first → within first last x ≡ false
+before : (first last x : ℕ) → x < first → inRange x first last ≡ false
 before first last x h = rw (lt-leb first x h)
 
-past : (first last x : ℕ) → first ≤ x → last < x → within first last x ≡ false
+past : (first last x : ℕ) → first ≤ x → last < x → inRange x first last ≡ false
 past first last x h k = rw (le-leb first x h, lt-leb x last k)
 
 pub digit-number : (x : ℕ) → 48 ≤ x → x ≤ 57 → x - 48 ≡ hexValue x

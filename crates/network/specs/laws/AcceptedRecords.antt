@@ -9,12 +9,12 @@ use lib.Dec.{leb, eqb}
 use lib.ListN.{length}
 use Rattle.network.specs.declared.study.Bus.{Bus}
 use Rattle.network.specs.declared.study.Source.{Source}
-use Rattle.network.specs.Records.{within, all, lineTests, transformerTests, branchOk, ratedOk}
+use Rattle.network.specs.Records.{inRange, all, lineTests, transformerTests, branchOk, ratedOk}
 use Rattle.network.specs.SourceKinds.{isFeeder, feederTests, generatorTests, motorTests, converterTests, fieldsOk, isRated, machineVolts, sourceKindOk}
 use Rattle.network.specs.Network.{Network, busAt, parentRecord, sourceAt, depthOf, transformersOf}
 use Rattle.tree.specs.Limits.{maxBuses, maxSources, maxBranches, maxTransformers}
 use Rattle.network.specs.Grounds.{depthOk, busGrounds, busRecordNumber, sourceGrounds, sourceRecordNumber}
-use Rattle.network.specs.laws.Tests.{by-test, both-true, where-true, within-true, at-zero, past-zero, all-true, not-both-zero}
+use Rattle.network.specs.laws.Tests.{by-test, both-true, where-true, in-range, at-zero, past-zero, all-true, not-both-zero}
 use Rattle.network.specs.laws.Acceptance.{testOf, ground}
 use Rattle.network.specs.laws.Rebuilt.{Rebuilt, source-record}
 
@@ -31,8 +31,8 @@ pub record LineRanges (b : Bus) : Type 0 where
 line-fields : (b : Bus) → all (lineTests b) ≡ true → LineRanges b
 line-fields b e =
     let h = all-true (lineTests b) e in
-    let m = within-true (b .f3) 1 200000 (h .1 .1 .1 .0) in
-    let c = within-true (b .f4) 1 8 (h .1 .1 .1 .1 .0) in
+    let m = in-range (b .f3) 1 200000 (h .1 .1 .1 .0) in
+    let c = in-range (b .f4) 1 8 (h .1 .1 .1 .1 .0) in
     record {
       r = omega (arith, leb-true);
       x = omega (arith, leb-true);
@@ -53,8 +53,8 @@ pub record TransformerRanges (b : Bus) : Type 0 where
 transformer-fields : (b : Bus) → all (transformerTests b) ≡ true → TransformerRanges b
 transformer-fields b e =
     let h = all-true (transformerTests b) e in
-    let s = within-true (b .f3) 10 1000000 (h .0) in
-    let u = within-true (b .f4) 100 30000 (h .1 .0) in
+    let s = in-range (b .f3) 10 1000000 (h .0) in
+    let u = in-range (b .f4) 100 30000 (h .1 .0) in
     record { kVA = s .0; kVA-most = s .1; uk = u .0; uk-most = u .1; uR = omega (arith, ltb-true) }
 
 -- rated volts from 9/10 to 11/10 of nominal ones
@@ -75,7 +75,7 @@ pub record FeederRanges (p : Source) : Type 0 where
 feeder-fields : (p : Source) → all (feederTests p) ≡ true → FeederRanges p
 feeder-fields p e =
     let h = all-true (feederTests p) e in
-    let s = within-true (p .f1) 1000 100000000 (h .0) in
+    let s = in-range (p .f1) 1000 100000000 (h .0) in
     record { kVA = s .0; kVA-most = s .1; ratio = omega (arith, leb-true) }
 
 pub record GeneratorRanges (p : Source) : Type 0 where
@@ -88,8 +88,8 @@ pub record GeneratorRanges (p : Source) : Type 0 where
 generator-fields : (p : Source) → all (generatorTests p) ≡ true → GeneratorRanges p
 generator-fields p e =
     let h = all-true (generatorTests p) e in
-    let s = within-true (p .f2) 10 1000000 (h .0) in
-    let x = within-true (p .f3) 1000 100000 (h .1 .0) in
+    let s = in-range (p .f2) 10 1000000 (h .0) in
+    let x = in-range (p .f3) 1000 100000 (h .1 .0) in
     record { kVA = s .0; kVA-most = s .1; xd = x .0; xd-most = x .1; ratio = omega (arith, leb-true) }
 
 pub record MotorRanges (p : Source) : Type 0 where
@@ -102,8 +102,8 @@ pub record MotorRanges (p : Source) : Type 0 where
 motor-fields : (p : Source) → all (motorTests p) ≡ true → MotorRanges p
 motor-fields p e =
     let h = all-true (motorTests p) e in
-    let s = within-true (p .f2) 1 100000 (h .0) in
-    let a = within-true (p .f3) 10 100 (h .1 .0) in
+    let s = in-range (p .f2) 1 100000 (h .0) in
+    let a = in-range (p .f3) 10 100 (h .1 .0) in
     record { kVA = s .0; kVA-most = s .1; start = a .0; start-most = a .1; ratio = omega (arith, leb-true) }
 
 pub record ConverterRanges (p : Source) : Type 0 where
@@ -115,8 +115,8 @@ pub record ConverterRanges (p : Source) : Type 0 where
 converter-fields : (p : Source) → all (converterTests p) ≡ true → ConverterRanges p
 converter-fields p e =
     let h = all-true (converterTests p) e in
-    let c = within-true (p .f1) 1 100000 (h .0) in
-    let k = within-true (p .f2) 100 300 (h .1 .0) in
+    let c = in-range (p .f1) 1 100000 (h .0) in
+    let k = in-range (p .f2) 100 300 (h .1 .0) in
     record { current = c .0; current-most = c .1; k = k .0; k-most = k .1 }
 
 -- ---- the whole network
@@ -139,7 +139,7 @@ module _ {n : Network} (r : Rebuilt n) (i : ℕ) (h : i < length (n .buses)) whe
   bus-test k = ground (busGrounds (n .buses) i) k refl (r .bus-records i h)
 
   pub bus-volts : (100 ≤ busAt (n .buses) i .volts) × (busAt (n .buses) i .volts ≤ 420000)
-  bus-volts = within-true (busAt (n .buses) i .volts) 100 420000 (bus-test 2)
+  bus-volts = in-range (busAt (n .buses) i .volts) 100 420000 (bus-test 2)
 
   -- "Any other bus names a parent with a smaller number."
   pub bus-parent : 0 < i → busAt (n .buses) i .parent < i
@@ -148,7 +148,7 @@ module _ {n : Network} (r : Rebuilt n) (i : ℕ) (h : i < length (n .buses)) whe
   pub bus-kind : 0 < i → (busAt (n .buses) i .kind ≡ 1) ⊎ (busAt (n .buses) i .kind ≡ 2)
   bus-kind z =
       let k = busAt (n .buses) i .kind in
-      let w = within-true k 1 2 (past-zero i (eqb k 0) (within k 1 2) (bus-test 4) z) in
+      let w = in-range k 1 2 (past-zero i (eqb k 0) (inRange k 1 2) (bus-test 4) z) in
       by-test (eqb k 1)
       (λ e. inl (eqb-true k 1 e))
       (λ e. inr (omega (arith, eqb-false k 1 e)))
@@ -184,12 +184,12 @@ module _ {n : Network} (r : Rebuilt n) (i : ℕ) (h : i < length (n .buses)) whe
   pub bus-rating : (1 ≤ busAt (n .buses) i .rating) × (busAt (n .buses) i .rating ≤ 1000000)
   bus-rating =
       let b = busAt (n .buses) i in
-      within-true (b .rating) 1 1000000 (both-true (within (b .rating) 1 1000000) (within (b .«peak_rating») 1 3000000) (bus-test 9) .0)
+      in-range (b .rating) 1 1000000 (both-true (inRange (b .rating) 1 1000000) (inRange (b .«peak_rating») 1 3000000) (bus-test 9) .0)
 
   pub bus-peak-rating : (1 ≤ busAt (n .buses) i .«peak_rating») × (busAt (n .buses) i .«peak_rating» ≤ 3000000)
   bus-peak-rating =
       let b = busAt (n .buses) i in
-      within-true (b .«peak_rating») 1 3000000 (both-true (within (b .rating) 1 1000000) (within (b .«peak_rating») 1 3000000) (bus-test 9) .1)
+      in-range (b .«peak_rating») 1 3000000 (both-true (inRange (b .rating) 1 1000000) (inRange (b .«peak_rating») 1 3000000) (bus-test 9) .1)
 
 -- ---- the record of the source at place j
 module _ {n : Network} (r : Rebuilt n) (j : ℕ) (h : j < length (n .sources)) where
@@ -201,7 +201,7 @@ module _ {n : Network} (r : Rebuilt n) (j : ℕ) (h : j < length (n .sources)) w
   source-kind-ok = source-test 10
 
   pub source-kind : (1 ≤ sourceAt (n .sources) j .kind) × (sourceAt (n .sources) j .kind ≤ 4)
-  source-kind = within-true (sourceAt (n .sources) j .kind) 1 4 source-kind-ok
+  source-kind = in-range (sourceAt (n .sources) j .kind) 1 4 source-kind-ok
 
   pub source-bus : sourceAt (n .sources) j .bus < length (n .buses)
   source-bus = ltb-true _ _ (source-test 11)

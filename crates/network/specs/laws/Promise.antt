@@ -26,17 +26,17 @@ pub kept : {n : Network} → Rebuilt n → n .closed ≡ true → (b : ℕ) → 
 unfolding foundGiven
 kept {n} r c b l = record {
   accepted = query-accepted n b c l;
-  demand = rw given (demand r (closed-source r c) b l);
+  demand = rw amperes-same (demand r (closed-source r c) b l);
   verdict = λ g w.
       verdict-given n b (query-accepted n b c l)
-      ∙ verdict-whole (amperesAt n b) g (rw given at w) _ _ (omega (arith, bus-rating r b l .1)) (omega (arith, bus-peak-rating r b l .1));
+      ∙ verdict-whole (amperesAt n b) g (rw amperes-same at w) _ _ (omega (arith, bus-rating r b l .1)) (omega (arith, bus-peak-rating r b l .1));
   same = λ ds d a.
-      ap machinesOf given ∙ machines-alike n (run ds) a b
+      ap machinesOf amperes-same ∙ machines-alike n (run ds) a b
       ∙ ap machinesOf (sym (amperes-given (run ds) b d (rw (a .buses) at l)));
 }
   where
-    given : amperesGiven n b ≡ amperesAt n b
-    given = amperes-given n b c l
+    amperes-same : amperesGiven n b ≡ amperesAt n b
+    amperes-same = amperes-given n b c l
 
 -- and so whatever gives it keeps the promise
 pub promised : (n : Network) (b : ℕ) (f : Found) → f ≡ foundGiven n b → Promise n b f

@@ -5,13 +5,13 @@ use mathlib.Core.Logic.{_⊎_, inl, inr, ⊎-elim}
 use native.Mathlib.Omega.{arith}
 use borrow.Author.Tests.{eqb-true, eqb-false, not-true}
 use Rattle.network.specs.declared.study.Source.{Source}
-use Rattle.network.specs.laws.Tests.{by-test, within-true}
+use Rattle.network.specs.laws.Tests.{by-test, in-range}
 use Rattle.network.specs.SourceKinds.{isFeeder, isGenerator, isMotor, isConverter, isMachine, sourceKindOk}
 
 -- which of the kinds a machine has
 pub machine-cases : (p : Source) → sourceKindOk p ≡ true → isMachine p ≡ true → (p .kind ≡ 1) ⊎ ((p .kind ≡ 2) ⊎ (p .kind ≡ 3))
 machine-cases p k m =
-    let w = within-true (p .kind) 1 4 k in
+    let w = in-range (p .kind) 1 4 k in
     let c = eqb-false (p .kind) 4 (not-true (isConverter p) m) in
     by-test (isFeeder p) (λ e. inl (eqb-true (p .kind) 1 e))
     (λ e. by-test (isGenerator p) (λ d. inr (inl (eqb-true (p .kind) 2 d)))

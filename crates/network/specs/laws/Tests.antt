@@ -7,7 +7,7 @@ use Prim.Native.Nat.{ℕ, _+_, _≤_, _<_}
 use native.Mathlib.Omega.{arith}
 use borrow.Author.Tests.{leb-true, ltb-true, eqb-true, eqb-false, not-true}
 use lib.Dec.{leb, ltb, eqb}
-use Rattle.network.specs.Records.{within, allFrom, all}
+use Rattle.network.specs.Records.{inRange, allFrom, all}
 use Rattle.network.specs.Grounds.{atZero}
 
 -- a fact from the two answers of a test
@@ -31,8 +31,8 @@ pub where-true : (a b : Bool) → (not a || b) ≡ true → a ≡ true → b ≡
 where-true true b e t = e
 where-true false b e t = never t
 
-pub within-true : (x low high : ℕ) → within x low high ≡ true → (low ≤ x) × (x ≤ high)
-within-true x low high e =
+pub in-range : (x low high : ℕ) → inRange x low high ≡ true → (low ≤ x) × (x ≤ high)
+in-range x low high e =
     let h = both-true (leb low x) (leb x high) e in
     (leb-true low x (h .0), leb-true x high (h .1))
 

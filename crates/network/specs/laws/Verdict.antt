@@ -38,7 +38,7 @@ within-or u r hu hr =
 
 -- THE VERDICT on whole amperes
 pub verdict-whole : (a : Amperes) (f : Figures) → WholeAmperes a f → (rating peakRating : ℕ) → rating ≤ 2 ^ 53 → peakRating ≤ 2 ^ 53
-    → verdictOf a (ofNat rating) (ofNat peakRating) ≡ verdictOn (f .lower + f .«converters_lower») (f .upper + f .«converters_upper») (f .peak + f .«converters_peak») rating peakRating
+    → verdictOf a (ofNat rating) (ofNat peakRating) ≡ verdictOn f rating peakRating
 unfolding verdictOf
 verdict-whole a f w rating peakRating hr hp =
     rw (

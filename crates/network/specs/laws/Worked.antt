@@ -115,7 +115,7 @@ module _ (f : Figures) (m : MachinesHold (driving two 0) (impedanceAt two 0) (f 
   unfolding carriedWithout across joined neighbour aboveOf belowOf converter
   converters-peak = peak-few (f .«converters_peak») _ _ (c .crest) (ltb→lt _ _ tt)
 
-  close : verdictOn (f .lower + f .«converters_lower») (f .upper + f .«converters_upper») (f .peak + f .«converters_peak») 7898 3000000 ≡ Close
+  close : verdictOn f 7898 3000000 ≡ Close
   close =
       rw (
         le-ltb 3000000 (f .peak + f .«converters_peak») (omega (arith, peak-most, converters-peak)),

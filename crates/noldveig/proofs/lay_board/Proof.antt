@@ -12,7 +12,7 @@ use Rattle.network.specs.declared.query.Found.{Found}
 use Rattle.printing.specs.Line.{room}
 use Rattle.noldveig.specs.Rows.{busRow, rowsText}
 use Rattle.noldveig.specs.laws.Rows.{rows-more}
-use Rattle.noldveig.proofs.Arrays.{length-mapped, read-within}
+use Rattle.network.specs.laws.Arrays.{length-mapped, read-inside}
 use borrow.Author.Needs.{needs}
 use Rattle.noldveig.proofs.lay_board.Statement.{statement}
 use Rattle.noldveig.proofs.lay_board.Tie as tie
@@ -62,7 +62,7 @@ loop-again c =
     let l = at-loop .loop in
     let rows = at-loop .before .query-all .result in
     let whole : length rows ≡ maxBuses = search (needs, length-mapped) in
-    let row = read-within rows (l .b) _ (refusedBy 15) (omega arith) in
+    let row = read-inside rows (l .b) _ (refusedBy 15) (omega arith) in
     let laid = turn .ensures .1 ∙ ap₂ (λ (x : List ℕ) (f : Found). x ++ busRow (l .b) (f .amperes) (f .verdict)) (l .inv .1 .1 .1 .1) row in
     (l .inv .0, (omega arith, (omega (arith, turn .ensures .0), (turn .kept .0 ∙ l .inv .1 .1 .1 .0, laid ∙ rows-more rows (l .b)))))
 

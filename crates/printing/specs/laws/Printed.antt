@@ -1,28 +1,30 @@
 -- How long what is printed can be, and worked numbers. Assumes nothing.
-use Prim.Native.Nat.{ℕ, zero, suc, _+_, _-_, _/_, _%_, _≤_}
+use Prim.Native.Nat.{ℕ, zero, suc, _+_, _/_, _%_, _≤_}
 use native.Mathlib.Omega.{arith}
 use mathlib.Core.Path.{_≡_, refl}
-use lib.Dec.{ltb, leb}
-use mathlib.Core.Bool.{cond}
+use lib.Dec.{ltb}
 use mathlib.Core.List.{List, [], _∷_, _++_}
 use lib.ListN.{length, length-append}
 use Rattle.network.specs.declared.query.Amperes.{Amperes}
 use Rattle.network.specs.declared.query.Verdict.{Verdict}
-use Rattle.network.specs.Demand.{Figures}
+use Rattle.network.specs.Network.{Network, busAt}
+use Rattle.network.specs.Demand.{Figures, judged}
 use Rattle.network.specs.laws.Tests.{by-test}
 use Rattle.printing.specs.Printed.{decimal, nextText, digitsOf, amperesText, wholeOf, letterText}
 
--- the same as a whole number, of whole sums L, U and P: "Over, by P − rated peak, ..; otherwise over, by L − rating, ..; within, with
--- margin rating − U, ..; otherwise close" (`amount-printed` in Whole)
-abbrev pub amountOn : ℕ → ℕ → ℕ → ℕ → ℕ → ℕ
-amountOn L U P rating peakRating = cond (ltb peakRating P) (P - peakRating) (cond (ltb rating L) (L - rating) (cond (leb U rating) (rating - U) 0))
+-- the verdict's excess or margin as a whole number, 0 where it is close; and at bus b of a network (`amount-printed` in WholePrinted)
+abbrev pub amountOn : Figures → ℕ → ℕ → ℕ
+amountOn = judged (λ excess. excess) (λ margin. margin) 0
+
+abbrev pub amountAt : Network → ℕ → Figures → ℕ
+amountAt n b f = amountOn f (busAt (n .buses) b .rating) (busAt (n .buses) b .«peak_rating»)
 
 -- 0 and 7,698
 worked : (decimal 0 ≡ 48 ∷ []) × (decimal 7698 ≡ 55 ∷ 54 ∷ 57 ∷ 56 ∷ [])
 unfolding decimal
 worked = (refl, refl)
 
--- six whole numbers in their place: what the amperes are printed as where they are these numbers (`amperes-printed` in Whole)
+-- six whole numbers in their place: what the amperes are printed as where they are these numbers (`amperes-printed` in WholePrinted)
 unfoldable pub figuresText : Figures → List ℕ
 figuresText f =
     nextText (f .lower)

@@ -1,6 +1,6 @@
 -- Whole amperes below 2 ^ 53, as `query` gives them, are printed as themselves.
 use mathlib.Core.Path.{_≡_, refl, sym, ap, _∙_}
-use mathlib.Core.Bool.{Bool, true, false, cond, true≢false}
+use mathlib.Core.Bool.{true, false, true≢false}
 use Prim.Native.Nat.{ℕ, _+_, _*_, _-_, _/_, _^_, _≤_, _<_}
 use native.Mathlib.Nat.{mul-one, mul-div-cancel, mul-lt-mul-of-pos-right}
 use native.Mathlib.Omega.{arith}
@@ -12,9 +12,9 @@ use lib.Ieee.Exact.{HasValue}
 use Rattle.enclosure.specs.Exact.{ofNat}
 use Rattle.enclosure.specs.laws.Units.{exact}
 use Rattle.network.specs.declared.query.Amperes.{Amperes}
+use Rattle.network.specs.laws.Tests.{by-test}
 use Rattle.network.specs.Demand as demand
 use Rattle.network.specs.Demand.{Figures, verdictOn}
-use Rattle.network.specs.declared.query.Verdict.the-variants.{Within, Over, Close}
 use Rattle.printing.specs.Printed.{wholeOf, amountOf, amperesText}
 use Rattle.printing.specs.laws.Printed.{amountOn, figuresText}
 
@@ -51,15 +51,19 @@ amperes-printed a f w =
     )
 
 -- and a verdict's amperes
-pub amount-printed : (L U P rating peakRating : ℕ) → L ≤ 2 ^ 53 → P ≤ 2 ^ 53 → rating ≤ 2 ^ 53
-    → wholeOf (amountOf (verdictOn L U P rating peakRating)) ≡ amountOn L U P rating peakRating
+pub amount-printed : (a : Amperes) (f : Figures) → demand.WholeAmperes a f → (rating peakRating : ℕ) → rating ≤ 2 ^ 53
+    → wholeOf (amountOf (verdictOn f rating peakRating)) ≡ amountOn f rating peakRating
 unfolding lt toUnsigned
-amount-printed L U P rating peakRating hl hp hr = go (ltb peakRating P) (ltb rating L) (leb U rating)
-  where
-    go : (a b c : Bool)
-        → wholeOf (amountOf (cond a (Over (ofNat (P - peakRating))) (cond b (Over (ofNat (L - rating))) (cond c (Within (ofNat (rating - U))) Close))))
-        ≡ cond a (P - peakRating) (cond b (L - rating) (cond c (rating - U) 0))
-    go true b c = whole-printed (P - peakRating) (omega arith)
-    go false true c = whole-printed (L - rating) (omega arith)
-    go false false true = whole-printed (rating - U) (omega arith)
-    go false false false = refl
+amount-printed a f w rating peakRating h =
+    let L = f .lower + f .«converters_lower» in
+    let U = f .upper + f .«converters_upper» in
+    let P = f .peak + f .«converters_peak» in
+    by-test (ltb peakRating P)
+    (λ t. rw t (whole-printed (P - peakRating) (omega (arith, w .peaks-small))))
+    (λ t. rw t
+    (by-test (ltb rating L)
+    (λ u. rw u (whole-printed (L - rating) (omega (arith, w .lowers-small))))
+    (λ u. rw u
+    (by-test (leb U rating)
+    (λ v. rw v (whole-printed (rating - U) (omega arith)))
+    (λ v. rw v refl)))))

@@ -6,7 +6,7 @@ use borrow.Author.Needs.{needs}
 use lib.ListN.{length}
 use Rattle.network.specs.Network.{network}
 use Rattle.network.specs.Grounds.{run}
-use Rattle.network.specs.laws.Tests.{within-true}
+use Rattle.network.specs.laws.Tests.{in-range}
 use Rattle.reader.specs.declared.Reading.{Reading}
 use Rattle.reader.specs.File.{maxBytes, Outcome, outcomeOf, readIn, readOf, callsRead}
 use Rattle.reader.specs.laws.FileAsCalls.{read-made}
@@ -20,7 +20,7 @@ parts r text e =
     (ap (λ (x : Outcome). x .number) e, (ap (λ (x : Outcome). x .row) e, (n, n ∙ read-made text)))
 
 read-rows-requires : tie.Need-read-rows-requires
-read-rows-requires c κs = within-true (length (c .before .before .args .text .now)) 1 maxBytes (c .if1 .taken)
+read-rows-requires c κs = in-range (length (c .before .before .args .text .now)) 1 maxBytes (c .if1 .taken)
 
 returns : tie.Need-returns
 unfolding readIn

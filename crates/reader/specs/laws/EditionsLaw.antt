@@ -13,7 +13,7 @@ use lib.ListN.{length, getD, length-append}
 use Rattle.network.specs.declared.study.Bus.{Bus}
 use Rattle.network.specs.declared.study.Source.{Source}
 use Rattle.network.specs.Network.{Network, Limits}
-use Rattle.network.specs.Records.{within}
+use Rattle.network.specs.Records.{inRange}
 use Rattle.network.specs.Grounds.{first, busGrounds, busNumberIn, afterBusIn, sourceGrounds, sourceNumberIn, afterSourceIn, emptyNetwork}
 use Rattle.network.specs.laws.Tests.{by-test, both-true}
 use Rattle.reader.specs.declared.Row.{Row}
@@ -116,7 +116,7 @@ module _ (L M : Limits) (raised : Raised L M) where
   pub as-before : (text : List ℕ) → readIn L text .number ≡ 0 → readIn M text ≡ readIn L text
   unfolding readIn
   as-before text e =
-      by-test (within (length text) 1 maxBytes)
+      by-test (inRange (length text) 1 maxBytes)
       (λ t. rw t (rows-as-before 0 emptyNetwork (rows text) (rw t at e)))
       (λ t. rw t)
 
@@ -219,7 +219,7 @@ rows-enough L i n before (r ∷ rs) at c e =
 pub no-surplus : (L : Limits) (text : List ℕ) → readIn L text .number ≡ 0 → firstSurplus L text ≡ 0
 unfolding readIn
 no-surplus L text e =
-    by-test (within (length text) 1 maxBytes)
+    by-test (inRange (length text) 1 maxBytes)
     (λ t. rows-enough L 0 emptyNetwork [] (rows text) refl (none-counted L) (rw t at e))
     (λ t. let z : _≡_ {A = ℕ} 16 0 = rw t at e in absurd (omega arith))
 
@@ -276,7 +276,7 @@ module _ (L M : Limits) where
   pub surplus : (text : List ℕ) → readIn M text .number ≡ 0 → (readIn L text .number ≡ 0 → ⊥) → MetAt (firstSurplus L text) (readIn L text)
   unfolding readIn
   surplus text a h =
-      by-test (within (length text) 1 maxBytes)
+      by-test (inRange (length text) 1 maxBytes)
       (λ t. rw t (rows-met 0 emptyNetwork [] (rows text) refl (none-counted L) (rw t at a) (rw t at h)))
       (λ t. let z : _≡_ {A = ℕ} 16 0 = rw t at a in absurd (omega arith))
 

@@ -6,7 +6,7 @@ use Prim.Native.Nat.{ℕ, _+_, _<_}
 use borrow.Author.Tests.{eqb-true, eqb-false}
 use lib.Dec.{eqb}
 use lib.ListN.{length}
-use Rattle.network.specs.Records.{within}
+use Rattle.network.specs.Records.{inRange}
 use Rattle.network.specs.Network.{Network}
 use Rattle.network.specs.Grounds.{closeNumber, afterClose, Call, starting, runFrom, emptyNetwork, run}
 use Rattle.network.specs.declared.query.Found.{Found}
@@ -53,7 +53,7 @@ module _ (text : List ℕ) (e : readOf text .number ≡ 0) where
   good : Good (readOf text) (run (calls text))
   unfolding readIn run
   good =
-      by-test (within (length text) 1 maxBytes)
+      by-test (inRange (length text) 1 maxBytes)
       (λ t. rw t (from-good 0 emptyNetwork (rows text) (rw t at e)))
       (λ t. absurd (let z : _≡_ {A = ℕ} 16 0 = rw t at e in eqb-false 16 0 refl z))
 
@@ -98,7 +98,7 @@ from-refused i n (r ∷ rs) h =
 pub refused-run : (text : List ℕ) → (readOf text .number ≡ 0 → ⊥) → readOf text .network ≡ run (starting 6 ∷ [])
 unfolding readIn run
 refused-run text h =
-    by-test (within (length text) 1 maxBytes)
+    by-test (inRange (length text) 1 maxBytes)
     (λ t. rw t (from-refused 0 emptyNetwork (rows text) (rw t at h)))
     (λ t. rw t)
 

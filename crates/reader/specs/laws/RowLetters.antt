@@ -9,7 +9,7 @@ use borrow.Author.Tests.{eqb-true}
 use Rattle.network.specs.laws.Tests.{by-test, both-true}
 use Rattle.reader.specs.declared.Row.{Row}
 use Rattle.reader.specs.declared.Row.the-variants.{Start, WithBus, WithSource, Malformed}
-use Rattle.reader.specs.File.{busFields, sourceFields, comma, letterS, letterB, letterP, fields, allNumbers, amounts, recordOf, fieldsRow, rowOf}
+use Rattle.reader.specs.File.{busCountOk, sourceCountOk, comma, letterS, letterB, letterP, fields, allNumbers, amounts, recordOf, fieldsRow, rowOf}
 
 abbrev pub Begins : Bool → List ℕ → Row → Type 0
 Begins top r (Start t) = (top ≡ true) × (getD r 0 0 ≡ letterS)
@@ -24,11 +24,11 @@ record-begins true letter v r e =
     (λ t. rw t (refl, e ∙ eqb-true letter letterS (both-true (eqb letter letterS) (eqb (length v) 1) t .0)))
     (λ t. rw t tt)
 record-begins false letter v r e =
-    by-test (eqb letter letterB && eqb (length v) busFields)
-    (λ t. rw t (refl, e ∙ eqb-true letter letterB (both-true (eqb letter letterB) (eqb (length v) busFields) t .0)))
+    by-test (eqb letter letterB && busCountOk (length v))
+    (λ t. rw t (refl, e ∙ eqb-true letter letterB (both-true (eqb letter letterB) (busCountOk (length v)) t .0)))
     (λ t. rw t
-    (by-test (eqb letter letterP && eqb (length v) sourceFields)
-    (λ u. rw u (refl, e ∙ eqb-true letter letterP (both-true (eqb letter letterP) (eqb (length v) sourceFields) u .0)))
+    (by-test (eqb letter letterP && sourceCountOk (length v))
+    (λ u. rw u (refl, e ∙ eqb-true letter letterP (both-true (eqb letter letterP) (sourceCountOk (length v)) u .0)))
     (λ u. rw u tt)))
 
 pub row-begins : (top : Bool) (r : List ℕ) → Begins top r (rowOf top r)

@@ -7,7 +7,8 @@ use lib.ListN.{length, take, length-take}
 use Rattle.network.specs.Network.{network, maxBuses, maxSources}
 use Rattle.reader.specs.File.{letterS, letterB, letterP}
 use Rattle.writer.specs.Text.{busNumbers, sourceNumbers, endedRow, recordRows}
-use Rattle.writer.proofs.NextRow.{length-mapped, counted, numbers-most, ended-row-length, record-rows-most, text-length}
+use Rattle.network.specs.laws.Arrays.{length-mapped}
+use Rattle.writer.proofs.NextRow.{counted, numbers-most, ended-row-length, record-rows-most, text-length}
 use borrow.Author.Needs.{needs}
 use Rattle.writer.proofs.text_size.Statement.{statement}
 use Rattle.writer.proofs.text_size.Tie as tie

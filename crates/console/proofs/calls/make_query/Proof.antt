@@ -3,7 +3,7 @@ use mathlib.Core.Path.{refl, _∙_, ap}
 use Rattle.network.specs.Network.{network}
 use Rattle.network.specs.declared.query.Found.{Found}
 use Rattle.console.specs.Answers.{foundLine}
-use Rattle.console.specs.Effects.{Effect, queryBy}
+use Rattle.console.specs.Effects.{exactly, Effect, queryBy}
 use Rattle.console.specs.laws.EffectsLaw.{numbers-taken, numbers-wrong, found-given}
 use borrow.Author.Needs.{needs}
 use Rattle.console.proofs.calls.make_query.Statement.{statement}
@@ -27,9 +27,9 @@ returns c =
     let before = then .before .before .before in
     let n = network (before .before .before .args .s) in
     let found = c .query .ensures in
-    let given = found-given _ n _ (found .0) (found .1 .0) (found .1 .1 .0) in
-    let line = ap {B = Effect} (λ (f : Found). record { answer = foundLine f; network = n }) given in
-    (refl, λ text. line ∙ numbers-taken 1 (queryBy n) n _ _ (before .numbers-of .ensures) _ (then .before .takes .ensures) (then .if1 .taken))
+    let same = found-given _ n _ (found .0) (found .1 .0) (found .1 .1 .0) in
+    let line = ap {B = Effect} (λ (f : Found). record { answer = foundLine f; network = n }) same in
+    (refl, λ text. line ∙ numbers-taken (exactly 1) (queryBy n) n _ _ (before .numbers-of .ensures) _ (then .before .takes .ensures) (then .if1 .taken))
 
 reason-of-requires : tie.Need-reason-of-requires
 reason-of-requires c κs = search needs
@@ -41,7 +41,7 @@ returns-2 : tie.Need-returns-2
 returns-2 c =
     let before = c .before .before .before .before .before in
     let n = network (before .before .before .args .s) in
-    (c .failed .ensures .0, λ text. c .failed .ensures .1 text ∙ numbers-wrong 1 (queryBy n) n _ _ (before .numbers-of .ensures) _ (c .before .before .before .takes .ensures) (c .before .before .if1 .left) _ (c .before .reason-of .ensures))
+    (c .failed .ensures .0, λ text. c .failed .ensures .1 text ∙ numbers-wrong (exactly 1) (queryBy n) n _ _ (before .numbers-of .ensures) _ (c .before .before .before .takes .ensures) (c .before .before .if1 .left) _ (c .before .reason-of .ensures))
 
 pub make-query-spec : {M : Type 1} → statement M
 make-query-spec =

@@ -1,7 +1,7 @@
 -- `console::calls::make_start` has its effect, with one number or without. Assumes nothing.
 use mathlib.Core.Path.{_∙_, ap₂}
 use Rattle.network.specs.Network.{network}
-use Rattle.console.specs.Effects.{ground, startBy}
+use Rattle.console.specs.Effects.{exactly, ground, startBy}
 use Rattle.console.specs.laws.EffectsLaw.{numbers-taken, numbers-wrong}
 use borrow.Author.Needs.{needs}
 use Rattle.console.proofs.calls.make_start.Statement.{statement}
@@ -28,7 +28,7 @@ returns c =
     let before = then .before .before .before in
     let n = network (before .before .before .args .s) in
     let done = c .before .start .ensures in
-    λ text. c .answered .ensures text ∙ ap₂ ground (done .0) (done .1) ∙ numbers-taken 1 startBy n _ _ (before .numbers-of .ensures) _ (then .before .takes .ensures) (then .if1 .taken)
+    λ text. c .answered .ensures text ∙ ap₂ ground (done .0) (done .1) ∙ numbers-taken (exactly 1) startBy n _ _ (before .numbers-of .ensures) _ (then .before .takes .ensures) (then .if1 .taken)
 
 reason-of-requires : tie.Need-reason-of-requires
 reason-of-requires c κs = search needs
@@ -40,7 +40,7 @@ returns-2 : tie.Need-returns-2
 returns-2 c =
     let before = c .before .before .before .before .before in
     let n = network (before .before .before .args .s) in
-    λ text. c .failed .ensures .1 text ∙ numbers-wrong 1 startBy n _ _ (before .numbers-of .ensures) _ (c .before .before .before .takes .ensures) (c .before .before .if1 .left) _ (c .before .reason-of .ensures)
+    λ text. c .failed .ensures .1 text ∙ numbers-wrong (exactly 1) startBy n _ _ (before .numbers-of .ensures) _ (c .before .before .before .takes .ensures) (c .before .before .if1 .left) _ (c .before .reason-of .ensures)
 
 pub make-start-spec : {M : Type 1} → statement M
 make-start-spec =

@@ -11,7 +11,7 @@ use Rattle.network.specs.QueryAll.{answerBy}
 use Rattle.sweep.specs.Sweep.{seenOf}
 use Rattle.network.specs.Doubles.{boardOf, seenAt, carriedAt}
 use Rattle.network.specs.laws.QueryAll.{refused-whole, found-open, found-absent, found-there}
-use Rattle.network.proofs.Lists.{length-mapped, within-array, read-counted}
+use Rattle.network.proofs.Lists.{length-mapped, inside-array, read-counted}
 use borrow.Author.Needs.{needs}
 use Rattle.network.proofs.query.given.Statement.{statement}
 use Rattle.network.proofs.query.given.Tie as tie
@@ -48,12 +48,12 @@ returns-2 c =
 mul-record : tie.Need-mul-record
 mul-record c =
     let a = c .before .before .before .args in
-    omega (arith, within-array maxBuses (a .t1 .«bus_count») (a .t1 .buses) (whole (c .before .before .before)) (a .bus) (inside c))
+    omega (arith, inside-array maxBuses (a .t1 .«bus_count») (a .t1 .buses) (whole (c .before .before .before)) (a .bus) (inside c))
 
 element-copy-out-record : tie.Need-element-copy-out-record
 element-copy-out-record c =
     let a = c .before .before .before .args in
-    within-array maxBuses (a .t1 .«bus_count») (a .t1 .buses) (whole (c .before .before .before)) (a .bus) (inside c)
+    inside-array maxBuses (a .t1 .«bus_count») (a .t1 .buses) (whole (c .before .before .before)) (a .bus) (inside c)
 
 board-of-requires : tie.Need-board-of-requires
 board-of-requires c κs = search needs

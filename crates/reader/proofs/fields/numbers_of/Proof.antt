@@ -1,10 +1,10 @@
--- `numbers_of` meets its contract. The invariant: what is gathered so far, with the fields that follow, is what all of them give.
+-- `numbers_of` meets its contract. The invariant: what is collected so far, with the fields that follow, is what all of them give.
 use mathlib.Core.Path.{sym, _∙_}
 use Prim.Native.Nat.{_+_, _-_}
 use native.Mathlib.Omega.{arith}
 use borrow.Author.Needs.{needs}
 use lib.ListN.{length}
-use Rattle.reader.proofs.Gathering.{begun, done, within-row, broken, full, more, Progress}
+use Rattle.reader.proofs.Collecting.{begun, done, inside-row, broken, full, more, Progress}
 use Rattle.reader.proofs.fields.numbers_of.Statement.{statement}
 use Rattle.reader.proofs.fields.numbers_of.Tie as tie
 
@@ -21,10 +21,10 @@ field-requires : tie.Need-field-requires Inv-loop μ-loop
 field-requires c κs = search needs
 
 add-next : tie.Need-add-next Inv-loop μ-loop
-add-next c = record { fits = omega (arith, within-row (c .before .before .loop .inv) (c .before .loop-test .taken) (c .field .result .now) (c .field .ensures)) }
+add-next c = record { fits = omega (arith, inside-row (c .before .before .loop .inv) (c .before .loop-test .taken) (c .field .result .now) (c .field .ensures)) }
 
 add-next-2 : tie.Need-add-next-2 Inv-loop μ-loop
-add-next-2 c = record { fits = omega (arith, within-row (c .before .before .loop .inv) (c .before .loop-test .taken) (c .field .result .now) (c .field .ensures)) }
+add-next-2 c = record { fits = omega (arith, inside-row (c .before .before .loop .inv) (c .before .loop-test .taken) (c .field .result .now) (c .field .ensures)) }
 
 number-of-requires : tie.Need-number-of-requires Inv-loop μ-loop
 number-of-requires c κs = search needs

@@ -1,4 +1,4 @@
--- The numbers of a row as the reader gathers them, field by field; and what they are to the row's fields. Assumes nothing.
+-- The numbers of a row as the reader collects them, field by field; and what they are to the row's fields. Assumes nothing.
 use mathlib.Core.Path.{_≡_}
 use mathlib.Core.Bool.{Bool, true, false, cond}
 use mathlib.Core.List.{List, [], _∷_}
@@ -20,15 +20,15 @@ entered (Value n) next stop = next n
 entered Broken next stop = stop
 
 -- the fields that follow `count` others: up to the first that is no number, or for which no row has room
-abbrev pub gather : List (List ℕ) → ℕ → List ℕ → Numbers
-gather [] count values = counted true count values
-gather (f ∷ fs) count values =
+abbrev pub collect : List (List ℕ) → ℕ → List ℕ → Numbers
+collect [] count values = counted true count values
+collect (f ∷ fs) count values =
     entered (numberOf f)
-    (λ n. cond (leb mostFields count) (counted false count values) (gather fs (count + 1) (set values count n)))
+    (λ n. cond (leb mostFields count) (counted false count values) (collect fs (count + 1) (set values count n)))
     (counted false count values)
 
-abbrev pub gathered : List (List ℕ) → Numbers
-gathered fs = gather fs 0 (replicate mostFields 0)
+abbrev pub collected : List (List ℕ) → Numbers
+collected fs = collect fs 0 (replicate mostFields 0)
 
 -- ---- what that is to the fields
 -- behind the first numbers stand zeros: a list with fewer numbers than places is filled with them

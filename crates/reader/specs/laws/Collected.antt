@@ -1,4 +1,4 @@
--- The numbers of a row as the reader gathers them are those of its fields. Assumes nothing.
+-- The numbers of a row as the reader collects them are those of its fields. Assumes nothing.
 use mathlib.Core.Path.{_≡_, refl, sym, _∙_}
 use mathlib.Core.Bool.{true, _&&_}
 use mathlib.Core.List.{List, [], _∷_, _++_, append-assoc, append-nil}
@@ -14,9 +14,9 @@ use Rattle.reader.specs.declared.Number.{Number}
 use Rattle.reader.specs.declared.Number.the-variants.{Value, Broken}
 use Rattle.reader.specs.declared.Numbers.{Numbers}
 use Rattle.reader.specs.File.{mostFields, numberOf, allNumbers, amounts}
-use Rattle.reader.specs.Gathered.{Filled, gather, gathered}
+use Rattle.reader.specs.Collected.{Filled, collect, collected}
 
-pub record Gathered (fs : List (List ℕ)) (r : Numbers) : Type 0 where
+pub record Collected (fs : List (List ℕ)) (r : Numbers) : Type 0 where
   pub tested : r .ok ≡ (allNumbers fs && leb (length fs) mostFields)
   pub few : r .count ≤ mostFields
   pub same : r .ok ≡ true → take (r .count) (r .values) ≡ amounts fs
@@ -33,7 +33,7 @@ record After (fs : List (List ℕ)) (count : ℕ) (values : List ℕ) (r : Numbe
 filled-more : (count n : ℕ) (values : List ℕ) → Filled count values → Filled (count + 1) (set values count n)
 filled-more count n values z i h = getD-set-other values count i n 0 (λ e. omega arith) ∙ z i (omega arith)
 
-after : (fs : List (List ℕ)) (count : ℕ) (values : List ℕ) → count ≤ mostFields → length values ≡ mostFields → Filled count values → After fs count values (gather fs count values)
+after : (fs : List (List ℕ)) (count : ℕ) (values : List ℕ) → count ≤ mostFields → length values ≡ mostFields → Filled count values → After fs count values (collect fs count values)
 after [] count values h w z = record {
   tested = sym (le-leb (count + 0) mostFields (omega arith));
   few = h;
@@ -43,9 +43,9 @@ after [] count values h w z = record {
 after (f ∷ fs) count values h w z = go (numberOf f) refl (after fs (count + 1))
   where
     Later : Type 0
-    Later = (v : List ℕ) → count + 1 ≤ mostFields → length v ≡ mostFields → Filled (count + 1) v → After fs (count + 1) v (gather fs (count + 1) v)
+    Later = (v : List ℕ) → count + 1 ≤ mostFields → length v ≡ mostFields → Filled (count + 1) v → After fs (count + 1) v (collect fs (count + 1) v)
 
-    go : (n : Number) → numberOf f ≡ n → Later → After (f ∷ fs) count values (gather (f ∷ fs) count values)
+    go : (n : Number) → numberOf f ≡ n → Later → After (f ∷ fs) count values (collect (f ∷ fs) count values)
     go Broken e later = rw e (record { tested = rw e; few = h; same = never; filled = z })
     go (Value n) e later =
         by-test (leb mostFields count)
@@ -64,8 +64,8 @@ after (f ∷ fs) count values h w z = go (numberOf f) refl (after fs (count + 1)
           filled = a .filled;
         }))
 
-pub gathered-law : (fs : List (List ℕ)) → Gathered fs (gathered fs)
-gathered-law fs =
+pub collected-law : (fs : List (List ℕ)) → Collected fs (collected fs)
+collected-law fs =
     let a = after fs 0 (replicate mostFields 0) (omega arith) (length-replicate {A = ℕ} mostFields 0) zeros in
     let e : 0 + length fs ≡ length fs = omega arith in
     record { tested = rw e at (a .tested); few = a .few; same = a .same; filled = a .filled }
