@@ -3,4 +3,3 @@ pub mod Collected
 pub mod FileAsCalls
 pub mod RowLetters
 pub mod Editions
-pub mod EditionsLaw

@@ -5,6 +5,7 @@ ghost use lib.ListN.{length, drop};
 ghost use Rattle.network.specs.Network.{network};
 ghost use Rattle.network.specs.Grounds.{emptyNetwork, run};
 ghost use Rattle.reader.specs.File.{maxBytes, rows, outcomeOf, refusedAt, closeAfter, readFrom, readOf, callsRead};
+ghost use Rattle.reader.specs.Editions.{firstEdition, OldEdition};
 
 mod fields;
 mod parts;
@@ -134,12 +135,14 @@ fn read_rows(text: &[u8]) -> Reading
 }
 
 // The study that a text gives, closed, or the first ground on which it is refused, with the row. By the clause `calls` it is a study that
-// calls made, so that whatever a query promises of such a study holds of what was read.
+// calls made, so that whatever a query promises of such a study holds of what was read; `edition` says what the edition of document 01,
+// with room for fewer records, makes of the text.
 pub fn read(text: &[u8]) -> Reading
     ensures number { λ r. ⌜ r .number ≡ readOf (now (text .entry)) .number ⌝ }
     ensures row { λ r. ⌜ r .row ≡ readOf (now (text .entry)) .row ⌝ }
     ensures network { λ r. ⌜ network (r .study) ≡ readOf (now (text .entry)) .network ⌝ }
     ensures calls { λ r. ⌜ network (r .study) ≡ run (callsRead (now (text .entry))) ⌝ }
+    ensures edition { λ r. ⌜ OldEdition firstEdition (now (text .entry)) (outcomeOf r) ⌝ }
 {
     let n = text.len();
     if (1 <= n) & (n <= BYTES) {

@@ -4,20 +4,30 @@ use mathlib.Core.List.{List}
 use Prim.Native.Nat.{ℕ}
 use borrow.Author.Needs.{needs}
 use lib.ListN.{length}
-use Rattle.network.specs.Network.{network}
+use native.Mathlib.Omega.{arith}
+use Rattle.network.specs.Network.{network, here}
 use Rattle.network.specs.Grounds.{run}
 use Rattle.network.specs.laws.Tests.{in-range}
 use Rattle.reader.specs.declared.Reading.{Reading}
 use Rattle.reader.specs.File.{maxBytes, Outcome, outcomeOf, readIn, readOf, callsRead}
+use Rattle.reader.specs.Editions.{firstEdition, OldEdition}
+use Rattle.reader.specs.laws.Editions.{Raised, old-edition}
 use Rattle.reader.specs.laws.FileAsCalls.{read-made}
 use Rattle.reader.proofs.read.Statement.{statement}
 use Rattle.reader.proofs.read.Tie as tie
 
+-- this edition has room for more
+raised : Raised firstEdition here
+raised = record { buses = omega arith; sources = omega arith }
+
 parts : (r : Reading) (text : List ℕ) → outcomeOf r ≡ readOf text
-    → (r .number ≡ readOf text .number) × ((r .row ≡ readOf text .row) × ((network (r .study) ≡ readOf text .network) × (network (r .study) ≡ run (callsRead text))))
+    → (r .number ≡ readOf text .number)
+    × ((r .row ≡ readOf text .row)
+    × ((network (r .study) ≡ readOf text .network)
+    × ((network (r .study) ≡ run (callsRead text)) × OldEdition firstEdition text (outcomeOf r))))
 parts r text e =
     let n = ap (λ (x : Outcome). x .network) e in
-    (ap (λ (x : Outcome). x .number) e, (ap (λ (x : Outcome). x .row) e, (n, n ∙ read-made text)))
+    (ap (λ (x : Outcome). x .number) e, (ap (λ (x : Outcome). x .row) e, (n, (n ∙ read-made text, rw e (old-edition firstEdition here raised text)))))
 
 read-rows-requires : tie.Need-read-rows-requires
 read-rows-requires c κs = in-range (length (c .before .before .args .text .now)) 1 maxBytes (c .if1 .taken)
