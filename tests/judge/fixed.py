@@ -185,7 +185,7 @@ def drawn_once():
 
 
 def greatest_currents():
-    """A feeder and as many generators as there is space for, each at its strongest: currents of more than 32 bits."""
+    """A feeder and generators up to the limit, each at its strongest: currents above 32 bits."""
     draft = Draft(Random(32), 100, 10)
     draft.feeder(10**8, 0)
     for _ in range(SOURCES - 1):

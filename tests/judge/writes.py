@@ -135,7 +135,8 @@ def longest_bus(number):
     return ("B", (parent, 420000, 2, 462000, 462000, 10**6, 30000, 29999, 10**6, 3 * 10**6))
 
 
-# All machines stand at the first bus with a number of most digits, so that they can be added between the buses behind it.
+# All machines stand at the first bus whose number has the most digits, so that they can be
+# added between the buses behind it.
 HOME = first_as_long(BUSES - 1)
 LONGEST_SOURCE = ("P", (2, HOME, 462000, 10**6, 100000, 200, 100))
 
