@@ -1,7 +1,7 @@
 /* The calculation of a network in plain doubles: what crates/network calculates, without bounds, checks or proofs. */
 #include <stddef.h>
 
-enum { BUSES = 64, SOURCES = 256, FIELDS = 5 };
+enum { BUSES = 128, SOURCES = 512, FIELDS = 5 };
 
 struct point {
     double re, im;

@@ -2,15 +2,15 @@
 
 It is data for explaining what the program refused, and for a plan that becomes records (desk/plan); the program alone refuses.
 A new kind of source is an entry of SOURCES, a wider range or a higher limit a number below; desk/plan/fields.py then has the
-plan's keys for it. The figures are those of document 01, "The study" and "The file".
+plan's keys for it. The figures are those of document 01, "The study" and "The file", and the limits those of order 2 of document 02.
 """
 from typing import NamedTuple
 
 MOST_BYTES = 65_536
 MOST_DIGITS = 10
 LARGEST = 2**32 - 1
-MOST_BUSES = 64
-MOST_SOURCES = 256
+MOST_BUSES = 128
+MOST_SOURCES = 512
 MOST_BRANCHES = 18
 MOST_TRANSFORMERS = 4
 BRANCH_FIELDS = 5  # in a row, those that depend on the kind of its branch

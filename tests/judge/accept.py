@@ -1,9 +1,9 @@
 """Which calls and which files are accepted, with number and row; a study as text.
 
 Written from document 01 alone ("The study", "The file" and the two lists of
-grounds) and from order 1 of document 02.  A Study is never changed: each call
-gives its number and the study after it, so that a refused call gives back the
-study it was made on.
+grounds) and from orders 1 and 2 of document 02.  A Study is never changed: each
+call gives its number and the study after it, so that a refused call gives back
+the study it was made on.
 """
 
 from exact import (
@@ -18,7 +18,9 @@ from exact import (
     SourceRecord,
 )
 
-BUSES, SOURCES = 64, 256
+# By order 2, and those of the edition before it; every other file takes them from here
+BUSES, SOURCES = 128, 512
+BUSES_BEFORE, SOURCES_BEFORE = 64, 256
 BRANCHES, TRANSFORMERS = 18, 4
 TEXT_BYTES = 65536
 FORM = 16
@@ -35,6 +37,8 @@ def near_nominal(rated, volts):
 
 
 class Study:
+    most_buses, most_sources = BUSES, SOURCES
+
     def __init__(self, tolerance=6, buses=(), sources=(), closed=False):
         self.tolerance = tolerance
         self.buses = buses
@@ -53,7 +57,7 @@ class Study:
 
     def add_bus(self, fields):
         record = BusRecord(*fields)
-        number = first_true(self.state_grounds(23, len(self.buses) >= BUSES))
+        number = first_true(self.state_grounds(23, len(self.buses) >= self.most_buses))
         number = number or first_true(self.bus_grounds(record))
         if number:
             return number, self
@@ -61,7 +65,7 @@ class Study:
 
     def add_source(self, fields):
         record = SourceRecord(*fields)
-        number = first_true(self.state_grounds(24, len(self.sources) >= SOURCES))
+        number = first_true(self.state_grounds(24, len(self.sources) >= self.most_sources))
         number = number or first_true(self.source_grounds(record))
         if number:
             return number, self
@@ -207,7 +211,7 @@ class Study:
         return letter, numbers
 
     def number(self, field):
-        if not 1 <= len(field) <= 10 or not all(48 <= byte <= 57 for byte in field):
+        if not 1 <= len(field) <= 10 or not field.isdigit():
             return None
         if field[:1] == b"0" and len(field) > 1:
             return None
@@ -229,6 +233,12 @@ class Study:
 
     def written_number(self, value):
         return b"%d" % value
+
+
+class StudyBefore(Study):
+    """A study of the edition before order 2."""
+
+    most_buses, most_sources = BUSES_BEFORE, SOURCES_BEFORE
 
 
 def first_true(grounds):

@@ -6,8 +6,10 @@ capitals", bytes), the same in capital digits, or ("other", line) for a line tha
 is no call at all.
 """
 
+from accept import BUSES, BUSES_BEFORE, SOURCES, SOURCES_BEFORE
 from networks import amount, any_network, random_tree
-from refusals import BASE, GREATEST, chain_rows, fault_subsets, lone_bus
+from refusals import BASE, CONVERTER_AT_BUS_0, FAULTY_BUS, FAULTY_SOURCE, GREATEST, LINE_FROM_BUS_0
+from refusals import chain_rows, fault_subsets, lone_bus
 from texts import SMALL, TEXT, spoil
 
 # The console lends a writing so many bytes at most, each filled so that a changed one shows.
@@ -157,17 +159,23 @@ def files_between():
 
 
 def full_tables():
-    """The 65th bus and the 257th source, right and faulty, open and closed."""
-    bus = ("bus", (0, 20000, 1, 100, 300, 1000, 2, 0, 15000, 60000))
-    converter = ("source", (4, 0, 1000, 150, 0, 0, 0))
+    """Surplus records right and faulty, open and closed, and every bus beyond the edition before.
+
+    A faulty record goes behind each table of the edition before, full in it
+    alone, and before the last record of each.
+    """
+    bus, converter = as_calls([LINE_FROM_BUS_0, CONVERTER_AT_BUS_0])
+    wrong_bus, wrong_source = as_calls([FAULTY_BUS, FAULTY_SOURCE])
     feeder = ("source", BASE[1][1])
-    wrong_bus = ("bus", (99, 1, 7, 1, 1, 1, 1, 1, 0, 0))
-    wrong_source = ("source", (9, 99, 1, 1, 1, 1, 1))
-    found = [("start", 6), ("bus", BASE[0][1])] + [bus] * 63
-    found += [bus, wrong_bus, wrong_source, converter, feeder] + [converter] * 255
-    found += [bus, wrong_bus, converter, wrong_source, feeder, ("query", 64), ("query", 0)]
+    found = [("start", 6), ("bus", BASE[0][1])] + [bus] * (BUSES_BEFORE - 1) + [wrong_bus]
+    found += [bus] * (BUSES - BUSES_BEFORE - 1) + [wrong_bus, bus]
+    found += [bus, wrong_bus, wrong_source, converter, feeder]
+    found += [converter] * (SOURCES_BEFORE - 1) + [wrong_source]
+    found += [converter] * (SOURCES - SOURCES_BEFORE - 1) + [wrong_source, converter]
+    found += [bus, wrong_bus, converter, wrong_source, feeder, ("query", BUSES), ("query", 0)]
     found += [("close",), bus, wrong_bus, converter, wrong_source, ("close",)]
-    return found + [("query", 0), ("query", 63), ("query", 64)]
+    last = [("query", number) for number in range(BUSES_BEFORE - 1, BUSES + 2)]
+    return found + [("query", 0), *last]
 
 
 def companies():
@@ -226,7 +234,7 @@ def side_call(rng, rows):
     """A call that does not belong to the plan."""
     way = rng.randrange(14)
     if way < 4:
-        return ("query", amount(rng, 0, 70))
+        return ("query", amount(rng, 0, BUSES + 6))
     if way < 5:
         return ("close",)
     if way < 6:
@@ -246,7 +254,8 @@ def drawn_calls(rng):
         if rng.random() < 0.2:
             found.append(("read", any_network(rng)[1].file()))
         else:
-            draft = random_tree(rng, rng.randint(1, 30), rng.randint(1, 40))
+            most = rng.choice([(30, 40)] * 9 + [(BUSES, SOURCES)])
+            draft = random_tree(rng, *(rng.randint(1, count) for count in most))
             found += [("start", draft.tolerance)]
             for call in as_calls(draft.rows):
                 while rng.random() < 0.4:
@@ -254,10 +263,10 @@ def drawn_calls(rng):
                 found.append(call)
         for _ in range(rng.randrange(4)):
             found.append(side_call(rng, BASE))
-        found += [("close",), *queries(rng.randint(0, 64))]
+        found += [("close",), *queries(rng.randint(0, BUSES))]
         for _ in range(rng.randrange(6)):
             found.append(side_call(rng, BASE))
-        found.append(("query", amount(rng, 0, 64)))
+        found.append(("query", amount(rng, 0, BUSES)))
         if rng.random() < 0.3:
             found.append(("start", rng.choice([6, 10, 8])))
     return found

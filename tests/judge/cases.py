@@ -71,18 +71,24 @@ def file_case(name, text):
     return Case(name, [("read", text), *after], text)
 
 
+def network_case(name, tolerance, rows, text=None):
+    """A network's file, drawn so as to be accepted; whether it is, the checker finds out."""
+    text = text or write_file(tolerance, rows)
+    return Case(name, [("read", text), *queries(sum(row[0] == "B" for row in rows))], text)
+
+
 def network_plan(name, draft, seed, rounds=1, by_program=False):
     return NetworkPlan(name, draft.tolerance, draft.rows, draft.file(), seed, rounds, by_program)
 
 
 def network_cases(plan):
     """The network, without its converters and with further ones."""
-    bare = write_file(plan.tolerance, without_converters(plan.rows))
-    more = write_file(plan.tolerance, with_more_converters(Random(plan.seed), plan.rows))
+    bare = without_converters(plan.rows)
+    more = with_more_converters(Random(plan.seed), plan.rows)
     return [
-        file_case(plan.name, plan.text),
-        file_case(plan.name + ", without converters", bare),
-        file_case(plan.name + ", with more converters", more),
+        network_case(plan.name, plan.tolerance, plan.rows, plan.text),
+        network_case(plan.name + ", without converters", plan.tolerance, bare),
+        network_case(plan.name + ", with more converters", plan.tolerance, more),
     ]
 
 
@@ -94,8 +100,9 @@ def border_cases(plan, amperes):
         picked = [
             pairs[(bus + turn + plan.seed) % len(pairs)][1:] for bus, pairs in enumerate(choices)
         ]
-        text = write_file(plan.tolerance, with_ratings(plan.rows, picked))
-        found.append(file_case(f"{plan.name}, ratings at borders {turn + 1}", text))
+        rows = with_ratings(plan.rows, picked)
+        name = f"{plan.name}, ratings at borders {turn + 1}"
+        found.append(network_case(name, plan.tolerance, rows))
     return found
 
 

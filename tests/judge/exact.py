@@ -6,8 +6,8 @@ whole numbers; nothing here is rounded except the enclosure of T(y) in
 
 An admittance is kept as a ratio (p + jq)/(r + js) of complex whole numbers.
 Turning it over exchanges the two, and a sum or a branch in series adds the
-sizes of its parts, so that 64 buses with 256 sources need numbers of about
-twelve thousand bits.  A ratio over one real denominator would double in size
+sizes of its parts, so that the largest networks need numbers of about
+fifteen thousand bits.  A ratio over one real denominator would double in size
 with every branch.
 """
 

@@ -2,6 +2,7 @@
 
 from fractions import Fraction
 
+from accept import BUSES, BUSES_BEFORE, SOURCES, SOURCES_BEFORE
 from accept import Study, first_true, near_nominal, within
 from calls import FILL, MOST_ROOM
 from exact import (
@@ -291,6 +292,60 @@ class TableFullTriedLast(Study):
 
 
 @planted
+class BusesOfTheEditionBefore(Study):
+    most_buses = BUSES_BEFORE
+
+
+@planted
+class SourcesOfTheEditionBefore(Study):
+    most_sources = SOURCES_BEFORE
+
+
+@planted
+class OneBusTooFew(Study):
+    most_buses = BUSES - 1
+
+
+@planted
+class OneSourceTooFew(Study):
+    most_sources = SOURCES - 1
+
+
+@planted
+class OneBusTooMany(Study):
+    most_buses = BUSES + 1
+
+
+@planted
+class OneSourceTooMany(Study):
+    most_sources = SOURCES + 1
+
+
+@planted
+class FullInTheEditionBefore(Study):
+    """A bus that the edition before has no space for is accepted, and a faulty one gets 23."""
+
+    def add_bus(self, fields):
+        number, after = super().add_bus(fields)
+        surplus = len(self.buses) >= BUSES_BEFORE and not self.closed
+        return 23 if number and surplus else number, after
+
+
+@planted
+class BusesAsFarAsTheEditionBefore(Study):
+    def query(self, bus):
+        return super().query(bus) or 15 * (bus >= BUSES_BEFORE)
+
+
+@planted
+class NumberOfABusCut(StandIn):
+    """Bus numbers are kept in as many bits as those of the edition before need."""
+
+    def amperes(self, study, bus):
+        return super().amperes(study, bus % BUSES_BEFORE)
+
+
+@planted
 class DepthOneTooGreat(Study):
     def depth(self, bus):
         branches, transformers = super().depth(bus)
@@ -517,13 +572,13 @@ class ToleranceAlwaysSix(Study):
 @planted
 class FullTableOfBusesCut(Study):
     def text(self):
-        return Study(self.tolerance, self.buses[:63], self.sources).text()
+        return Study(self.tolerance, self.buses[: BUSES - 1], self.sources).text()
 
 
 @planted
 class FullTableOfSourcesCut(Study):
     def text(self):
-        return Study(self.tolerance, self.buses, self.sources[:255]).text()
+        return Study(self.tolerance, self.buses, self.sources[: SOURCES - 1]).text()
 
 
 @planted

@@ -5,6 +5,7 @@ None of it depends on a seed, so a fault that this set finds is always found.
 
 from random import Random
 
+from accept import BUSES, SOURCES
 from networks import FAMILIES, Draft, highest, lowest
 
 
@@ -53,10 +54,10 @@ def table_steps():
         resistances += [r for r in (320 * i - 1, 320 * i, 320 * i + 1) if r > 0]
     resistances += [320 * i for i in (235, 240, 250, 270, 300, 312)]
     found = []
-    for start in range(0, len(resistances), 63):
+    for start in range(0, len(resistances), BUSES - 1):
         draft = Draft(Random(start), 10000, 6)
         draft.feeder(27500000, 0)
-        for r in resistances[start : start + 63]:
+        for r in resistances[start : start + BUSES - 1]:
             draft.line(0, r, 0, 1, 8)
         found.append((f"R/X from {resistances[start]}/32,000", draft))
     steep = Draft(Random("steep"), 10000, 6)
@@ -75,11 +76,11 @@ def rho_sweeps():
         draft = Draft(Random(rho), 100 + rho, 6 + 4 * (rho % 2))
         draft.feeder(10**8 - rho, rho)
         found.append((f"feeder of rho {rho}", draft))
-    for start in range(0, 201, 63):
+    for start in range(0, 201, BUSES - 1):
         for machine in ("motor", "generator"):
             draft = Draft(Random(start), 1000, 6)
             draft.feeder(1000, 0)
-            for rho in range(start, min(start + 63, 201)):
+            for rho in range(start, min(start + BUSES - 1, 201)):
                 bus = draft.line(0, 100000, 100000, 200000, 1)
                 if machine == "motor":
                     draft.motor(bus, 900 + rho, 100000, 10 + rho % 91, rho)
@@ -103,13 +104,15 @@ def transformers():
     """uk and uR over their ranges, and nominal volts on both sides of 1,000."""
     rng = Random(7)
     found = []
+    all_uk = (100, 101, 150, 1000, 6000, 12345, 29999, 30000, 30000)
+    all_volts = (100, 400, 999, 1000, 1001, 20000, 420000)
     for tolerance in (6, 10):
         draft = Draft(rng, 20000, tolerance)
         draft.feeder(10**8, 10)
-        for i in range(63):
-            uk = (100, 101, 150, 1000, 6000, 12345, 29999, 30000, 30000)[i % 9]
+        for i in range(len(all_uk) * len(all_volts)):
+            uk = all_uk[i % len(all_uk)]
             ur = (0, 1, uk - 1, uk - 2, uk // 2, uk // 3, 7 * uk // 8)[i % 7]
-            volts = (100, 400, 999, 1000, 1001, 20000, 420000)[i // 9]
+            volts = all_volts[i // len(all_uk)]
             draft.transformer(0, volts, None, (10**6, 10, 630)[i % 3], uk, ur)
         draft.any_sources(40)
         found.append((f"transformers at tolerance {tolerance}", draft))
@@ -170,7 +173,7 @@ def ends_together():
             draft.generator(bus)
             draft.motor(bus)
             draft.converter(bus)
-            draft.any_sources(252)
+            draft.any_sources(SOURCES - 4)
             found.append((f"all fields {name}, tolerance {tolerance}", draft))
     return found
 
@@ -182,10 +185,10 @@ def drawn_once():
 
 
 def greatest_currents():
-    """A feeder and 255 generators, each at its strongest: currents of more than 32 bits."""
+    """A feeder and generators up to the limit, each at its strongest: currents above 32 bits."""
     draft = Draft(Random(32), 100, 10)
     draft.feeder(10**8, 0)
-    for _ in range(255):
+    for _ in range(SOURCES - 1):
         draft.generator(0, 100, 10**6, 1000, 0, 100)
     return [("currents of more than 32 bits", draft)]
 

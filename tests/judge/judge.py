@@ -54,12 +54,17 @@ def sign(left, right):
 
 
 class MachinesPart:
-    """Comparisons with the exact machines' part I and its exact peak E at one bus."""
+    """Comparisons with the exact machines' part I and its exact peak E at one bus.
+
+    What was compared with the peak is kept: networks alike in all but their
+    converters ask for the same again.
+    """
 
     def __init__(self, values):
         self.values = values
         self.bounds = kappa_bounds(values.r, values.x)
         self.kappa = None
+        self.signs = {}
 
     def compare(self, n):
         """Sign of n − I."""
@@ -67,6 +72,11 @@ class MachinesPart:
 
     def compare_peak(self, top, bottom):
         """Sign of top/bottom − E²."""
+        if (top, bottom) not in self.signs:
+            self.signs[top, bottom] = self.peak_sign(top, bottom)
+        return self.signs[top, bottom]
+
+    def peak_sign(self, top, bottom):
         left = top * self.values.square_bottom << 2 * FIXED_BITS
         right = 2 * bottom * self.values.square_top
         low, high = self.bounds

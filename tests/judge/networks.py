@@ -4,6 +4,7 @@ Everything drawn comes from the random.Random handed over, so a seed gives the
 same networks again.
 """
 
+from accept import BUSES, SOURCES
 from exact import CONVERTER, FEEDER, GENERATOR, LINE, MOTOR, TRANSFORMER
 
 TYPICAL_VOLTS = [100, 400, 690, 999, 1000, 1001, 6000, 10000, 20000, 110000, 419999, 420000]
@@ -134,7 +135,7 @@ class Draft:
 
     def any_sources(self, count, kinds=(GENERATOR, MOTOR, CONVERTER), buses=None):
         make = {GENERATOR: self.generator, MOTOR: self.motor, CONVERTER: self.converter}
-        for _ in range(min(count, 256 - self.sources)):
+        for _ in range(min(count, SOURCES - self.sources)):
             bus = self.rng.choice(buses) if buses else self.any_bus()
             make[self.rng.choice(kinds)](bus)
 
@@ -162,21 +163,21 @@ class Draft:
 def random_tree(rng, buses=None, sources=None):
     draft = Draft(rng)
     draft.feeder()
-    for _ in range(rng.randrange(rng.choice([4, 12, 64])) if buses is None else buses - 1):
+    for _ in range(rng.randrange(rng.choice([4, 12, 40, BUSES])) if buses is None else buses - 1):
         near = rng.randrange(max(0, len(draft.buses) - 3), len(draft.buses))
         parent = near if rng.random() < 0.5 else draft.any_bus()
         while draft.depth[parent][0] == 18:
             parent = draft.any_bus()
         draft.branch(parent)
     if sources is None:
-        sources = rng.randrange(1, rng.choice([3, 10, 40, 257]))
+        sources = rng.randrange(1, rng.choice([3, 10, 40, 100, SOURCES + 1]))
     draft.any_sources(sources - 1)
     return draft.mix()
 
 
 def full_tree(rng):
-    """64 buses and 256 sources."""
-    return random_tree(rng, 64, 256)
+    """As many buses and sources as a study takes."""
+    return random_tree(rng, BUSES, SOURCES)
 
 
 def arm(draft, parent, depth=18, transformers=4):
@@ -211,18 +212,18 @@ def arm_to_arm(rng):
 def star(rng):
     draft = Draft(rng)
     draft.feeder()
-    for _ in range(63):
+    for _ in range(BUSES - 1):
         draft.branch(0)
-    draft.any_sources(rng.choice([0, 20, 255]))
+    draft.any_sources(rng.choice([0, 20, SOURCES - 1]))
     return draft.mix()
 
 
 def crowd(rng):
-    """255 machines at one bus."""
+    """As many machines as a study takes, all at one bus."""
     draft = Draft(rng)
     draft.feeder()
     bus = draft.branch(draft.branch(0))
-    draft.any_sources(255, (GENERATOR, MOTOR), [rng.randint(0, bus)])
+    draft.any_sources(SOURCES - 1, (GENERATOR, MOTOR), [rng.randint(0, bus)])
     return draft
 
 
@@ -234,11 +235,11 @@ def extremes(rng):
     """Every field at one of its ends."""
     draft = Draft(rng, draw=rng.choice([end_of_range, lowest, highest]))
     draft.feeder()
-    for _ in range(rng.choice([1, 5, 63])):
+    for _ in range(rng.choice([1, 5, 40, BUSES - 1])):
         parent = draft.any_bus()
         if draft.depth[parent][0] < 18:
             draft.branch(parent)
-    draft.any_sources(rng.choice([1, 5, 255]))
+    draft.any_sources(rng.choice([1, 5, 120, SOURCES - 1]))
     return draft.mix()
 
 
@@ -292,7 +293,7 @@ def steep(rng):
     """R/X anywhere from 0 to far above 2.3, by lines from a strong feeder."""
     draft = Draft(rng, volts=rng.choice([100, 1000, 10000]))
     draft.feeder(kva=rng.choice([10**8, 10**7, None]))
-    for _ in range(rng.randrange(1, 64)):
+    for _ in range(rng.randrange(1, rng.choice([20, BUSES]))):
         draft.line(0, amount(rng, 1, 100000), amount(rng, 0, rng.choice([1, 100, 100000])))
     draft.any_sources(rng.randrange(3))
     return draft.mix()
@@ -312,7 +313,7 @@ FAMILIES = [
     steep,
 ]
 # Large networks take the judge longest; the small ones find as much.
-WEIGHTS = [8, 1, 2, 2, 1, 1, 3, 3, 3, 3, 2]
+WEIGHTS = [24, 1, 6, 6, 1, 1, 6, 9, 9, 9, 6]
 
 
 def any_network(rng):
@@ -331,7 +332,7 @@ def without_converters(rows):
 def with_more_converters(rng, rows):
     """Converters put in at drawn places behind the feeder, the rest left in order."""
     rows = list(rows)
-    space = 256 - sum(row[0] == "P" for row in rows)
+    space = SOURCES - sum(row[0] == "P" for row in rows)
     for _ in range(min(space, rng.randint(1, 8))):
         feeder = next(i for i, row in enumerate(rows) if row[0] == "P")
         place = rng.randint(feeder + 1, len(rows))

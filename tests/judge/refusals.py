@@ -6,6 +6,7 @@ and row are meant, so that the acceptance rules can themselves be tested.
 
 from itertools import combinations
 
+from accept import BUSES, BUSES_BEFORE, SOURCES, SOURCES_BEFORE
 from networks import write_file
 
 GREATEST = 2**32 - 1
@@ -111,7 +112,7 @@ def reference_misses():
     """Buses that are not there, kinds that are none, and a line between two voltages."""
     found = []
     for row, count in ((FEEDER_ROW, 1), (GENERATOR_ROW, 3), (MOTOR_ROW, 3), (CONVERTER_ROW, 3)):
-        for bus in (count, count + 1, 64, GREATEST):
+        for bus in (count, count + 1, BUSES, GREATEST):
             rows = changed(BASE, {(row, SOURCE_BUS): bus})
             found.append(miss(f"ground 11: row {row} at bus {bus}", rows, 11, row))
     for row, count in ((ROOT, 1), (LINE_ROW, 1), (TRANSFORMER_ROW, 2)):
@@ -191,7 +192,7 @@ def depth_misses():
 
 
 def order_misses():
-    """Start, order of sources, closing without a source, tables full."""
+    """Start, order of sources, closing without a source."""
     feeder_at_1 = changed(BASE, {(FEEDER_ROW, SOURCE_BUS): 1})
     feeder_at_1.insert(3, feeder_at_1.pop(1))
     second_feeder = BASE + [BASE[1]]
@@ -210,22 +211,48 @@ def order_misses():
         found.append(miss(f"ground 14: kind {source[1][0]} first", first, 14, 5))
     for tolerance in (0, 5, 7, 9, 11, 60, GREATEST):
         found.append(miss(f"ground 1: tolerance {tolerance}", BASE, 1, 1, tolerance))
-    bus = ("B", (0, 20000, 1, 100, 300, 1000, 2, 0, 15000, 60000))
-    source = BASE[6][:1] + ((4, 0, 1000, 150, 0, 0, 0),)
-    full_buses = lone_bus(20000) + [bus] * 63
-    full_sources = lone_bus(20000) + [source] * 255
-    faulty_bus = ("B", (99, 1, 7, 1, 1, 1, 1, 1, 0, 0))
-    faulty_source = ("P", (9, 99, 1, 1, 1, 1, 1))
-    return found + [
-        miss("accepted: 64 buses", full_buses, 0, 0),
-        miss("ground 23: the 65th bus", full_buses + [bus], 23, 67),
-        miss("ground 23: the 65th bus, faulty", full_buses + [faulty_bus], 23, 67),
-        miss("accepted: 256 sources", full_sources, 0, 0),
-        miss("ground 24: the 257th source", full_sources + [source], 24, 259),
-        miss("ground 24: the 257th source, faulty", full_sources + [faulty_source], 24, 259),
-        miss("ground 2: faulty bus behind full sources", full_sources + [faulty_bus], 2, 259),
-        miss("ground 10: faulty source behind full buses", full_buses + [faulty_source], 10, 67),
+    return found
+
+
+LINE_FROM_BUS_0 = ("B", (0, 20000, 1, 100, 300, 1000, 2, 0, 15000, 60000))
+CONVERTER_AT_BUS_0 = ("P", (4, 0, 1000, 150, 0, 0, 0))
+FAULTY_BUS = ("B", (GREATEST, 1, 7, 1, 1, 1, 1, 1, 0, 0))
+FAULTY_SOURCE = ("P", (9, GREATEST, 1, 1, 1, 1, 1))
+
+
+def buses_in_all(count):
+    return lone_bus(20000) + [LINE_FROM_BUS_0] * (count - 1)
+
+
+def sources_in_all(count):
+    return lone_bus(20000) + [CONVERTER_AT_BUS_0] * (count - 1)
+
+
+def limit_misses(letter, in_all, limit, number):
+    """As many records as the limit, one more, and a faulty one more of either kind.
+
+    `number` is due for one more: 0 at a limit of the edition before, where a
+    faulty one has its own ground.  It stands in the third row after as many.
+    """
+    found = [
+        miss(f"accepted: {limit} {letter} rows", in_all(limit), 0, 0),
+        miss(f"one more than {limit} {letter} rows", in_all(limit + 1), number, limit + 3),
     ]
+    for faulty, own in ((FAULTY_BUS, 2), (FAULTY_SOURCE, 10)):
+        due = number if number and faulty[0] == letter else own
+        name = f"ground {due}: faulty {faulty[0]} row behind {limit} {letter} rows"
+        found.append(miss(name, in_all(limit) + [faulty], due, limit + 3))
+    return found
+
+
+def table_misses():
+    """Full tables, and those that were full in the edition before."""
+    return (
+        limit_misses("B", buses_in_all, BUSES_BEFORE, 0)
+        + limit_misses("B", buses_in_all, BUSES, 23)
+        + limit_misses("P", sources_in_all, SOURCES_BEFORE, 0)
+        + limit_misses("P", sources_in_all, SOURCES, 24)
+    )
 
 
 # Faults in company: the lowest ground is due
@@ -297,12 +324,11 @@ def company_misses():
     return found
 
 
+def record_misses():
+    """Near misses of the grounds of records, and of the order of rows."""
+    return single_field_misses() + volts_misses() + depth_misses() + order_misses()
+
+
 def near_misses():
     """Every near miss as a file."""
-    return (
-        single_field_misses()
-        + volts_misses()
-        + depth_misses()
-        + order_misses()
-        + company_misses()
-    )
+    return record_misses() + table_misses() + company_misses()

@@ -1,17 +1,18 @@
 """Tests of the judge itself.
 
 Document 01's worked points, the sweeps against the plain definitions, the
-acceptance rules against meant numbers, a study's text against one typed by
-hand, and planted faults that the fixed set has to find.  Nothing of the
-product is run.
+acceptance rules against meant numbers and against those of the edition before,
+a study's text against one typed by hand, and planted faults that the fixed set
+has to find.  Nothing of the product is run.
 """
 
 import sys
 import time
+from collections import Counter
 from fractions import Fraction
 from random import Random
 
-from accept import Study
+from accept import BUSES_BEFORE, SOURCES_BEFORE, Study, StudyBefore
 from calls import as_calls, drawn_calls, line_of
 from cases import drawn_unit, fixed_units, run_unit
 from exact import f_millionths, peak_thousandths, series, sine, transformer_ux
@@ -23,7 +24,7 @@ from plain import PlainNetwork
 from reference import InProcess, StandIn
 from refusals import BASE, chain_rows, lone_bus, near_misses
 from run import Commands
-from texts import meant_texts
+from texts import meant_texts, spoil
 from writes import WRITTEN, back_calls, first_calls, fixed_writings, longest_rows
 from writes import study_after, text_of, told_apart
 
@@ -108,11 +109,27 @@ def worked_grounds(tests):
         number, study = (study.add_bus if letter == "B" else study.add_source)(record)
         numbers.append(number)
     tests.same("depth 18 and 19", (any(numbers[:-1]), numbers[-1]), (False, 8))
-    line = (0, 20000, 1, 1, 1, 1, 1, 0, 1, 1)
+    full_tables(tests, study)
+
+
+def full_tables(tests, study):
+    """Order 2's limits in its own numbers, whatever the acceptance rules call them."""
+    bus, source = (0, 20000, 1, 1, 1, 1, 1, 0, 1, 1), (4, 0, 1, 100, 0, 0, 0)
     while len(study.buses) < 64:
-        study = study.add_bus(line)[1]
-    number, after = study.add_bus(line)
-    tests.same("the 65th bus", (number, after is study), (23, True))
+        study = study.add_bus(bus)[1]
+    while len(study.sources) < 256:
+        study = study.add_source(source)[1]
+    buses = sources = study
+    numbers = []
+    for _ in range(65):
+        number, buses = buses.add_bus(bus)
+        numbers.append(number)
+    tests.same("the 65th to the 128th bus and the 129th", numbers, [0] * 64 + [23])
+    numbers = []
+    for _ in range(257):
+        number, sources = sources.add_source(source)
+        numbers.append(number)
+    tests.same("the 257th to the 512th source and the 513th", numbers, [0] * 256 + [24])
 
 
 def against_plain(tests, count=60):
@@ -165,6 +182,56 @@ def meant_numbers(tests):
         if number:
             empty = study.tolerance == 6 and not (study.buses or study.sources or study.closed)
             tests.true(f"{meant.name}: empty study", empty)
+
+
+def first_surplus(text):
+    """Ground and row of the first record that the edition before has no space for."""
+    buses = sources = 0
+    for place, row in enumerate(text.split(b"\r\n"), 1):
+        buses += row[:1] == b"B"
+        sources += row[:1] == b"P"
+        if buses > BUSES_BEFORE:
+            return 23, place
+        if sources > SOURCES_BEFORE:
+            return 24, place
+    return None
+
+
+def editions(tests, count=600):
+    """Order 2: what the edition before accepts reads as before, and a larger file that is
+    accepted now meets 23 or 24 in it at its first surplus row.
+
+    Of a damaged file: the edition before refuses it alike, or has met its first surplus row.
+    """
+    met = Counter()
+    for n in range(count):
+        rng = Random(f"editions {n}")
+        text = any_network(rng)[1].file()
+        text = spoil(rng, text) if n % 3 == 0 else text
+        *before, study = StudyBefore().read(text)
+        *now, larger = Study().read(text)
+        if before[0] == 0:
+            met["accepted by both"] += 1
+            tests.same(f"edition before, file {n}", (now, vars(larger)), ([0, 0], vars(study)))
+        elif before == now:
+            met["refused alike"] += 1
+            tests.true(f"edition before, file {n} refused otherwise", before[0] not in (23, 24))
+        else:
+            met["larger and accepted" if now[0] == 0 else "larger and refused"] += 1
+            tests.same(f"edition before, larger file {n}", tuple(before), first_surplus(text))
+    print(f"{count} files in two editions: {', '.join(f'{name} {met[name]}' for name in sorted(met))}")
+    tests.same("kinds of files in two editions", len(met), 4)
+
+
+def drawn_sizes(tests, count=1000):
+    """Networks beyond the edition before are drawn as a matter of course."""
+    drafts = [any_network(Random(f"sizes {n}"))[1] for n in range(count)]
+    for name, larger in (
+        (f"more than {BUSES_BEFORE} buses", [len(d.buses) > BUSES_BEFORE for d in drafts]),
+        (f"more than {SOURCES_BEFORE} sources", [d.sources > SOURCES_BEFORE for d in drafts]),
+    ):
+        print(f"of {count} networks drawn {sum(larger)} have {name}")
+        tests.true(f"one in twenty has {name}", 20 * sum(larger) >= count)
 
 
 BASE_TEXT = (
@@ -365,6 +432,8 @@ def main():
     against_plain(tests)
     against_floats(tests)
     meant_numbers(tests)
+    editions(tests)
+    drawn_sizes(tests)
     written_by_hand(tests)
     written_and_read(tests)
     answers_told_apart(tests)

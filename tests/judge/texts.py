@@ -1,5 +1,6 @@
 """Broken text: what may stand in a file besides the agreed form."""
 
+from accept import BUSES, SOURCES
 from networks import write_file, write_row
 from refusals import BASE, GREATEST, NearMiss, lone_bus
 
@@ -137,8 +138,8 @@ def company_of_form():
     bad = write_row("B", (1, 99, 9, 9, 9, 9, 9, 9, 0, 0))
     line = write_row("B", (0, 20000, 1, 100, 300, 1000, 2, 0, 15000, 60000))
     converter = write_row("P", (4, 0, 1000, 150, 0, 0, 0))
-    full_buses = [root, feeder] + [line] * 63
-    full_sources = [root, feeder] + [converter] * 255
+    full_buses = [root, feeder] + [line] * (BUSES - 1)
+    full_sources = [root, feeder] + [converter] * (SOURCES - 1)
     found = [NearMiss("ground 1: tolerance before form behind", b"S,7\r\n?\r\n", 1, 1)]
     for name, rows, number, row in (
         ("record before form behind", [bad, b"?"], 2, 2),
@@ -146,8 +147,8 @@ def company_of_form():
         ("form before its own record", [bad + b",1"], 16, 2),
         ("number too great in a faulty record", [bad[:-1] + b"4294967296"], 16, 2),
         ("form before closing", [root, b""], 16, 3),
-        ("form before the 65th bus", full_buses + [line + b","], 16, 67),
-        ("form before the 257th source", full_sources + [converter + b" "], 16, 259),
+        ("form before a full table of buses", full_buses + [line + b","], 16, BUSES + 3),
+        ("form before a full table of sources", full_sources + [converter + b" "], 16, SOURCES + 3),
     ):
         text = b"\r\n".join([b"S,6", *rows, b""])
         found.append(NearMiss(f"ground {number}: {name}", text, number, row))

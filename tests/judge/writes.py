@@ -8,11 +8,11 @@ text that is due, since a writer goes wrong beside that length.
 import re
 from typing import NamedTuple
 
-from accept import Study
+from accept import BUSES, BUSES_BEFORE, SOURCES, Study
 from calls import LOW_VOLTAGE, MOST_ROOM, NO_CALLS, as_calls, carried_out, queries, wrong_record
 from fixed import drawn_once
 from networks import amount, any_network
-from refusals import BASE, near_misses
+from refusals import BASE, record_misses
 from texts import SMALL, TEXT
 
 KEEPS = ("query", "write", "other")
@@ -74,7 +74,7 @@ def written_without_refused():
         ("bus", (0, 20000, 1, 100, 300, 1000, 2, 0, 0, 60000)),
         ("bus", (0, 20000, 1, 100, 300, 1000, 9, 0, 15000, 60000)),
         ("source", (4, 0, 1000, 99, 0, 0, 0)),
-        ("source", (2, 64, 400, 500, 15000, 10, 90)),
+        ("source", (2, BUSES, 400, 500, 15000, 10, 90)),
         ("query", 0),
         ("other", "hello"),
     ]
@@ -106,7 +106,7 @@ def written_rooms():
 def written_ends():
     """Each field at each end of its range, its longest number with it."""
     found = []
-    for meant in near_misses():
+    for meant in record_misses():
         if meant.number == 0:
             call = ("read", meant.text)
             found += [call, ("write", length_after([call]) + 3)]
@@ -124,31 +124,43 @@ def written_numbers():
     return found + [("close",), ("write", length_after(found))]
 
 
-LONGEST_BUS = ("B", (10, 420000, 2, 462000, 462000, 10**6, 30000, 29999, 10**6, 3 * 10**6))
-LONGEST_SOURCE = ("P", (2, 10, 462000, 10**6, 100000, 200, 100))
+def first_as_long(number):
+    """The least bus number with as many digits."""
+    return 10 ** (len(str(number)) - 1) if number > 9 else 0
+
+
+def longest_bus(number):
+    """Over a transformer from the first bus whose number is as long as any parent's can be."""
+    parent = first_as_long(number - 1)
+    return ("B", (parent, 420000, 2, 462000, 462000, 10**6, 30000, 29999, 10**6, 3 * 10**6))
+
+
+# All machines stand at the first bus whose number has the most digits, so that they can be
+# added between the buses behind it.
+HOME = first_as_long(BUSES - 1)
+LONGEST_SOURCE = ("P", (2, HOME, 462000, 10**6, 100000, 200, 100))
 
 
 def longest_rows():
-    """The longest text of all: full tables, every number as long as it can be.
-
-    Buses from 11 on and all machines stand at bus 10, the first with two
-    digits, so that machines can be added between the buses.
-    """
+    """The longest text of all: full tables, every number as long as it can be."""
     rows = [
         ("B", (0, 420000, 0, 0, 0, 0, 0, 0, 10**6, 3 * 10**6)),
         ("P", (1, 0, 10**8, 200, 0, 0, 0)),
     ]
-    rows += [("B", (0, *LONGEST_BUS[1][1:]))] * 10
-    return rows + [LONGEST_SOURCE, LONGEST_BUS, LONGEST_SOURCE] * 53 + [LONGEST_SOURCE] * 149
+    rows += [longest_bus(number) for number in range(1, HOME + 1)]
+    for number in range(HOME + 1, BUSES):
+        rows += [LONGEST_SOURCE, longest_bus(number), LONGEST_SOURCE]
+    return rows + [LONGEST_SOURCE] * (SOURCES - sum(row[0] == "P" for row in rows))
 
 
 def written_full_tables():
-    """64 buses and 256 sources in a mixture, the 65th and the 257th refused between."""
-    over = as_calls([LONGEST_BUS, LONGEST_SOURCE])
+    """Full tables in a mixture, one bus and one source more refused."""
+    over = as_calls([longest_bus(BUSES), LONGEST_SOURCE])
     found = [("start", 10), *as_calls(longest_rows()), *over]
     length = length_after(found)
     found += [("write", length), ("close",), *writes(rooms_beside(length))]
-    return found + [("query", 0), ("query", 63), *over, ("close",), ("write", length)]
+    last = [("query", number) for number in range(BUSES_BEFORE - 1, BUSES + 1)]
+    return found + [("query", 0), *last, *over, ("close",), ("write", length)]
 
 
 WRITTEN = [
@@ -268,7 +280,7 @@ def call_between(rng, rows, study):
     if way < 2:
         return ("write", rng.choice([0, len(study.text()), amount(rng, 0, MOST_ROOM)]))
     if way < 3:
-        return ("query", amount(rng, 0, 70))
+        return ("query", amount(rng, 0, BUSES + 6))
     if way < 4:
         return ("other", rng.choice(NO_CALLS))
     letter, numbers = rng.choice(rows)

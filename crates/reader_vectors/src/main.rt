@@ -157,7 +157,7 @@ fn put(text: &mut [u8], at: usize, row: &[u8]) -> usize
 
 // A text of rows, of one row several times, and of a last one.
 fn repeated(head: &[u8], row: &[u8], times: usize, last: &[u8]) {
-    let mut text = [0u8; 8192];
+    let mut text = [0u8; 16384];
     let mut at = put(&mut text, 0, head);
     for _ in 0..times {
         at = put(&mut text, at, row);
@@ -166,8 +166,8 @@ fn repeated(head: &[u8], row: &[u8], times: usize, last: &[u8]) {
     tell(&text[..at]);
 }
 
-// Full tables: state grounds before those of the record, and 16 before either.
-fn tables() {
+// As many buses as the edition before had room for and one more, a full table, and one bus more: 23 before its own ground, 16 before 23.
+fn bus_tables() {
     repeated(
         b"S,6\r\nB,0,20000,0,0,0,0,0,0,25000,63000\r\n",
         b"B,0,20000,1,200,350,1500,1,0,25000,63000\r\n",
@@ -183,9 +183,31 @@ fn tables() {
     repeated(
         b"S,6\r\nB,0,20000,0,0,0,0,0,0,25000,63000\r\n",
         b"B,0,20000,1,200,350,1500,1,0,25000,63000\r\n",
-        63,
+        127,
+        b"P,1,0,500000,10,0,0,0\r\n",
+    );
+    repeated(
+        b"S,6\r\nB,0,20000,0,0,0,0,0,0,25000,63000\r\n",
+        b"B,0,20000,1,200,350,1500,1,0,25000,63000\r\n",
+        128,
+        b"P,1,0,500000,10,0,0,0\r\n",
+    );
+    repeated(
+        b"S,6\r\nB,0,20000,0,0,0,0,0,0,25000,63000\r\n",
+        b"B,0,20000,1,200,350,1500,1,0,25000,63000\r\n",
+        127,
+        b"B,128,99,3,0,0,0,0,0,0,0\r\n",
+    );
+    repeated(
+        b"S,6\r\nB,0,20000,0,0,0,0,0,0,25000,63000\r\n",
+        b"B,0,20000,1,200,350,1500,1,0,25000,63000\r\n",
+        127,
         b"B,0\r\n",
     );
+}
+
+// The same with sources: 24 before the own ground, 16 before 24.
+fn source_tables() {
     repeated(
         b"S,6\r\nB,0,20000,0,0,0,0,0,0,25000,63000\r\nP,1,0,500000,10,0,0,0\r\n",
         b"P,4,0,1,100,0,0,0\r\n",
@@ -195,14 +217,32 @@ fn tables() {
     repeated(
         b"S,6\r\nB,0,20000,0,0,0,0,0,0,25000,63000\r\nP,1,0,500000,10,0,0,0\r\n",
         b"P,4,0,1,100,0,0,0\r\n",
-        255,
-        b"P,4,0,1,100,0,0,0\r\n",
+        256,
+        b"",
     );
     repeated(
         b"S,6\r\nB,0,20000,0,0,0,0,0,0,25000,63000\r\nP,1,0,500000,10,0,0,0\r\n",
         b"P,4,0,1,100,0,0,0\r\n",
-        255,
+        511,
+        b"",
+    );
+    repeated(
+        b"S,6\r\nB,0,20000,0,0,0,0,0,0,25000,63000\r\nP,1,0,500000,10,0,0,0\r\n",
+        b"P,4,0,1,100,0,0,0\r\n",
+        512,
+        b"",
+    );
+    repeated(
+        b"S,6\r\nB,0,20000,0,0,0,0,0,0,25000,63000\r\nP,1,0,500000,10,0,0,0\r\n",
+        b"P,4,0,1,100,0,0,0\r\n",
+        511,
         b"P,5,0,1,100,0,0,0\r\n",
+    );
+    repeated(
+        b"S,6\r\nB,0,20000,0,0,0,0,0,0,25000,63000\r\nP,1,0,500000,10,0,0,0\r\n",
+        b"P,4,0,1,100,0,0,0\r\n",
+        511,
+        b"P,4\r\n",
     );
 }
 
@@ -226,6 +266,7 @@ fn main() {
     rows();
     bus_grounds();
     source_grounds();
-    tables();
+    bus_tables();
+    source_tables();
     longest();
 }

@@ -8,7 +8,7 @@ use Rattle.reader_vectors.proofs.repeated.Statement.{statement}
 use Rattle.reader_vectors.proofs.repeated.Tie as tie
 
 abbrev Inv-loop : tie.InvT-loop
-Inv-loop head row times last text₀ at₀ counter₀ text at counter = (at ≤ 8192) × (length text ≡ 8192)
+Inv-loop head row times last text₀ at₀ counter₀ text at counter = (at ≤ 16384) × (length text ≡ 16384)
 
 abbrev μ-loop : tie.MeasureT-loop
 μ-loop head row times last text₀ at₀ counter₀ text at counter = times - counter
