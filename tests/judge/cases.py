@@ -122,10 +122,7 @@ def fixed_units():
     units.append(Unit([Case("calls: at_once", at_once())], alone=True))
     units.append(Unit([Case(f"calls: {make.__name__}", make()) for make in WRITTEN]))
     units.append(Unit([], writings=fixed_writings()))
-    for i, part in enumerate(chunks(texts, 100)):
-        short = [text for text in part if len(line_of(("read", text[1]))) <= LINE_BYTES]
-        long = [text for text in part if text not in short]
-        units.append(Unit([file_case(*text) for text in short], [], short[i % 8 :: 8] + long))
+    units += [text_unit(part, i % 8, 8) for i, part in enumerate(chunks(texts, 100))]
     plans = []
     for i, (name, draft) in enumerate(fixed_networks()):
         small = len(draft.buses) <= 3 and not name.startswith("feeder")
@@ -151,8 +148,14 @@ def drawn_unit(kind, seed, places):
         return Unit([Case(name, drawn_calls(rng)) for name, _, rng in draws])
     if kind == "writes":
         return Unit([], writings=[drawn_writing(name, rng) for name, _, rng in draws])
-    texts = [(name, spoil(rng, any_network(rng)[1].file())) for name, _, rng in draws]
-    return Unit([file_case(*text) for text in texts], [], texts[::20])
+    return text_unit([(name, spoil(rng, any_network(rng)[1].file())) for name, _, rng in draws], 0, 20)
+
+
+def text_unit(texts, first, every):
+    """Texts for the console, some of them for the program too, and those that are too long for the console for the program alone."""
+    short = [text for text in texts if len(line_of(("read", text[1]))) <= LINE_BYTES]
+    long = [text for text in texts if text not in short]
+    return Unit([file_case(*text) for text in short], [], short[first::every] + long)
 
 
 def drawn_plan(name, n, rng):
