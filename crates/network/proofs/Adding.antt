@@ -2,7 +2,7 @@
 -- come to as it stands before and after it.
 use mathlib.Core.Path.{_≡_, sym}
 use mathlib.Core.Bool.{Bool, true, _&&_}
-use mathlib.Core.List.{List, [], _∷_}
+use mathlib.Core.List.{List, _∷_}
 use Prim.Native.Nat.{ℕ, _+_, _≤_, _<_}
 use native.Mathlib.Omega.{arith}
 use native.Mathlib.Numerals.{add-one}
@@ -18,7 +18,7 @@ use Rattle.network.specs.declared.additions.Addition.{Addition}
 use Rattle.network.specs.declared.additions.Entry.{Entry}
 use Rattle.network.specs.Network.{Network, network, blank, busAt}
 use Rattle.network.specs.Grounds.{busNumber, afterBusIn, afterBus, sourceNumber, afterSourceIn, afterSource}
-use Rattle.network.specs.Additions.{additionNumber, afterAddition, AddedNetwork, addedFrom}
+use Rattle.network.specs.Additions.{additionNumber, afterAddition, addedFrom}
 use Rattle.network.specs.laws.Acceptance.{bus-room, source-room, granted}
 use Rattle.network.specs.laws.Tests.{both-true}
 use Rattle.network.proofs.Lists.{below-count, appended, counted-test}
@@ -79,10 +79,10 @@ module _ (count : ℕ) (entries : List Entry) (i : ℕ) (n : Network) (d : Entry
   unfolding addedFrom
   addition-accepted z = rw (next, e, z)
 
-  pub addition-refused : (k : ℕ) → k ≡ additionNumber n a → (k ≡ 0 → ⊥) → addedFrom i n (drop i (take count entries)) ≡ record { number = k; count = i; network = n }
+  pub addition-refused : (k : ℕ) → k ≡ additionNumber n a → (k ≡ 0 → ⊥) → addedFrom i n (drop i (take count entries)) ≡ record { number = k; accepted = i; network = n }
   unfolding addedFrom
   addition-refused k z r = rw (next, e, ← z, ne-eqb k 0 r)
 
-pub additions-end : (l : List Entry) (i : ℕ) (n : Network) → length l ≤ i → addedFrom i n (drop i l) ≡ record { number = 0; count = i; network = n }
+pub additions-end : (l : List Entry) (i : ℕ) (n : Network) → length l ≤ i → addedFrom i n (drop i l) ≡ record { number = 0; accepted = i; network = n }
 unfolding addedFrom
 additions-end l i n h = rw (drop-of-length-le l h)

@@ -3,7 +3,7 @@ ghost use mathlib.Core.Path.{_≡_};
 ghost use mathlib.Core.List.{map};
 ghost use lib.ListN.{length, take};
 ghost use Rattle.network.specs.Network.{network};
-ghost use Rattle.network.specs.Additions.{maxAdditions, listed, addedNetwork, addedFrom, called};
+ghost use Rattle.network.specs.Additions.{noAdditions, listed, addedNetwork, addedFrom, called};
 ghost use Rattle.network.specs.Grounds.{runFrom};
 use crate::calls::bus_number;
 use crate::calls::source_number;
@@ -38,13 +38,13 @@ pub struct Additions {
 // these.
 pub struct Added {
     pub number: u32,
-    pub count: usize,
+    pub accepted: usize,
     pub study: Study,
 }
 
 // No addition yet.
 pub fn no_additions() -> Additions
-    ensures { λ r. ⌜ (r .count ≡ 0) × (length (r .entries) ≡ maxAdditions) ⌝ }
+    ensures { λ r. ⌜ r ≡ noAdditions ⌝ }
 {
     let blank = blank_bus();
     let addition = Addition::OfBus(blank);
@@ -65,11 +65,12 @@ fn total_of(more: Additions) -> usize
     ADDITIONS
 }
 
-// The study with records more, one after the other as `add_bus` and `add_source` take them, up to the first that is refused. By the clause
-// `calls` it is the study after those calls.
+// The study with records more, one after the other as `add_bus` and `add_source` take them, up to the first that is refused; those before
+// it stay. By the clause `calls` it is the study after those calls.
 pub fn add_all(s: Study, more: Additions) -> Added
     ensures added { λ r. ⌜ addedNetwork r ≡ addedFrom 0 (network s) (listed more) ⌝ }
-    ensures calls { λ r. ⌜ network (r .study) ≡ runFrom (network s) (map called (take (r .count) (listed more))) ⌝ }
+    ensures kept { λ r. ⌜ (r .accepted ≡ 0 → r .study ≡ s) ⌝ }
+    ensures calls { λ r. ⌜ network (r .study) ≡ runFrom (network s) (map called (take (r .accepted) (listed more))) ⌝ }
 {
     let total = total_of(more);
     let mut study = s;
@@ -85,7 +86,7 @@ pub fn add_all(s: Study, more: Additions) -> Added
                 if number != 0 {
                     return Added {
                         number,
-                        count: i,
+                        accepted: i,
                         study,
                     };
                 }
@@ -96,13 +97,13 @@ pub fn add_all(s: Study, more: Additions) -> Added
             Addition::OfSource(p) => {
                 let bus = p.bus as usize;
                 let place = place_in(bus);
-                let at = study.buses[place];
+                let b = study.buses[place];
                 let there = (bus < study.bus_count) & (bus < BUSES);
-                let number = source_number(study.closed, study.source_count, there, at, p);
+                let number = source_number(study.closed, study.source_count, there, b, p);
                 if number != 0 {
                     return Added {
                         number,
-                        count: i,
+                        accepted: i,
                         study,
                     };
                 }
@@ -115,7 +116,7 @@ pub fn add_all(s: Study, more: Additions) -> Added
     }
     Added {
         number: 0,
-        count: i,
+        accepted: i,
         study,
     }
 }

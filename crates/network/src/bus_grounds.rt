@@ -116,21 +116,19 @@ fn way_of(buses: [Bus; BUSES], i: usize) -> Way
     ensures branches { λ r. ⌜ r .branches ≡ depthOf buses i ⌝ }
     ensures transformers { λ r. ⌜ r .transformers ≡ transformersOf buses i ⌝ }
 {
-    let mut at = i;
-    let mut branches: usize = 0;
-    let mut transformers: usize = 0;
-    loop {
-        let b = buses[at];
-        let parent = b.parent as usize;
-        if at <= parent {
-            return Way {
-                branches,
-                transformers,
-            };
+    let b = buses[i];
+    let parent = b.parent as usize;
+    if parent < i {
+        let above = way_of(buses, parent);
+        Way {
+            branches: above.branches + 1,
+            transformers: above.transformers + if_transformer(b),
         }
-        branches += 1;
-        transformers += if_transformer(b);
-        at = parent;
+    } else {
+        Way {
+            branches: 0,
+            transformers: 0,
+        }
     }
 }
 

@@ -77,10 +77,10 @@ pub fn add_bus(s: Study, b: Bus) -> Answer
     }
 }
 
-// The same for a source record: by whether the study is closed, how many sources it counts, whether the record's bus is there, and that
-// bus.
-pub(crate) fn source_number(closed: bool, n: usize, there: bool, at: Bus, p: Source) -> u32
-    ensures { λ r. ⌜ ((s : Study) → s .closed ≡ closed → s .«source_count» ≡ n → length (s .sources) ≡ maxSources → ltb (p .bus) (length (network s .buses)) ≡ there → (there ≡ true → busAt (network s .buses) (p .bus) ≡ at) → r ≡ sourceNumber (network s) p) ⌝ }
+// The same for a source record: by whether the study is closed, how many sources it counts, whether the source's bus is there, and that
+// bus's record, any one where it is not there.
+pub(crate) fn source_number(closed: bool, n: usize, there: bool, b: Bus, p: Source) -> u32
+    ensures { λ r. ⌜ ((s : Study) → s .closed ≡ closed → s .«source_count» ≡ n → length (s .sources) ≡ maxSources → ltb (p .bus) (length (network s .buses)) ≡ there → (there ≡ true → busAt (network s .buses) (p .bus) ≡ b) → r ≡ sourceNumber (network s) p) ⌝ }
 {
     if closed {
         return 21;
@@ -88,7 +88,7 @@ pub(crate) fn source_number(closed: bool, n: usize, there: bool, at: Bus, p: Sou
     if SOURCES <= n {
         return 24;
     }
-    source_record_number(there, at, n, p)
+    source_record_number(there, b, n, p)
 }
 
 // The study with a source more. Refused: 21 closed, 24 no room, 10 to 14 by the record.
@@ -99,9 +99,9 @@ pub fn add_source(s: Study, p: Source) -> Answer
 {
     let bus = p.bus as usize;
     let place = place_in(bus);
-    let at = s.buses[place];
+    let b = s.buses[place];
     let there = (bus < s.bus_count) & (bus < BUSES);
-    let source_ground = source_number(s.closed, s.source_count, there, at, p);
+    let source_ground = source_number(s.closed, s.source_count, there, b, p);
     if source_ground != 0 {
         return Answer {
             number: source_ground,

@@ -1,5 +1,5 @@
-// A study of a radial network: what it holds (study), the calls that make it (calls), and what it is asked (query). The other modules
-// are what these stand on.
+// A study of a radial network: what it holds (study), the calls that make it (calls; several additions in one, additions), and what it is
+// asked (query). The other modules are what these stand on.
 pub mod additions;
 mod board;
 mod bus_grounds;

@@ -33,13 +33,13 @@ fn feeder_place_ok(j: usize, p: Source) -> bool
 }
 
 // The ground in the input on which the record of a source at place j is refused, 0 where it is accepted: by whether its bus is there,
-// and by that bus.
-pub(crate) fn source_record_number(there: bool, at: Bus, j: usize, p: Source) -> u32
-    ensures { λ r. ⌜ ((l : List Bus) → ltb (p .bus) (length l) ≡ there → (there ≡ true → busAt l (p .bus) ≡ at) → r ≡ sourceRecordNumber l j p) ⌝ }
+// and by that bus's record.
+pub(crate) fn source_record_number(there: bool, b: Bus, j: usize, p: Source) -> u32
+    ensures { λ r. ⌜ ((l : List Bus) → ltb (p .bus) (length l) ≡ there → (there ≡ true → busAt l (p .bus) ≡ b) → r ≡ sourceRecordNumber l j p) ⌝ }
 {
     let kind = kind_ok(p);
     let fields = fields_ok(p);
-    let volts = machine_volts_ok(at, p);
+    let volts = machine_volts_ok(b, p);
     let place = feeder_place_ok(j, p);
     let rest = unless(fields, 12, unless(volts, 13, unless(place, 14, 0)));
     unless(kind, 10, unless(there, 11, rest))

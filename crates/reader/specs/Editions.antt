@@ -25,7 +25,7 @@ tooManyBuses L rs = ltb (L .buses) (lettered letterB rs)
 abbrev pub tooMany : Limits → List (List ℕ) → Bool
 tooMany L rs = tooManyBuses L rs || ltb (L .sources) (lettered letterP rs)
 
--- of the rows that follow others, the first one up to which all are too many, by its number from 1; 0 where there is none
+-- the number, from 1 and counting the rows before, of the first row with which the rows so far are too many; 0 where there is none
 abbrev pub surplusAfter : Limits → List (List ℕ) → List (List ℕ) → ℕ
 surplusAfter L before [] = 0
 surplusAfter L before (r ∷ rs) = cond (tooMany L (before ++ (r ∷ []))) (length before + 1) (surplusAfter L (before ++ (r ∷ [])) rs)
@@ -46,7 +46,7 @@ metAt L text = refusedAt (fullAfter L [] (rows text)) (firstSurplus L text)
 -- what an edition of limits L, the old one, makes of a text of which the new one makes o
 pub record OldEdition (L : Limits) (text : List ℕ) (o : Outcome) : Type 0 where
   -- "A file which the old edition accepts reads as before"
-  pub before : readIn L text .number ≡ 0 → o ≡ readIn L text
+  pub asBefore : readIn L text .number ≡ 0 → o ≡ readIn L text
   -- "a larger one which the new edition accepts is met by an old edition with 23 or 24 at its first surplus row"
   pub larger : o .number ≡ 0 → 0 < firstSurplus L text → readIn L text ≡ metAt L text
   -- and no other file is accepted by the new edition alone

@@ -1,5 +1,5 @@
 -- Rows taken as additions: what the rows behind the first come to, by the additions of a part and the rows behind it.
-use mathlib.Core.Bool.{Bool, cond}
+use mathlib.Core.Bool.{cond}
 use mathlib.Core.List.{List, [], _∷_}
 use Prim.Native.Nat.{ℕ, _+_}
 use lib.Dec.{eqb}
@@ -7,20 +7,20 @@ use lib.ListN.{drop}
 use Rattle.network.specs.declared.additions.Addition.the-variants.{OfBus, OfSource}
 use Rattle.network.specs.declared.additions.Entry.{Entry}
 use Rattle.network.specs.Network.{Network}
-use Rattle.network.specs.Additions.{additionNumber, afterAddition, AddedNetwork}
+use Rattle.network.specs.Additions.{additionNumber, afterAddition}
 use Rattle.reader.specs.declared.Row.{Row}
 use Rattle.reader.specs.declared.Row.the-variants.{Start, WithBus, WithSource, Malformed}
-use Rattle.reader.specs.declared.parts.Adds.{Adds}
-use Rattle.reader.specs.declared.parts.Adds.the-variants.{Record, Nothing}
+use Rattle.reader.specs.declared.parts.RowEntry.{RowEntry}
+use Rattle.reader.specs.declared.parts.RowEntry.the-variants.{Record, Nothing}
 use Rattle.reader.specs.declared.parts.Part.{Part}
 use Rattle.reader.specs.File.{rows, Outcome, refusedAt, readFrom}
 
 -- what a row behind the first adds
-abbrev pub addedBy : Row → Adds
-addedBy (Start t) = Nothing
-addedBy (WithBus b) = Record (record { addition = OfBus b })
-addedBy (WithSource p) = Record (record { addition = OfSource p })
-addedBy Malformed = Nothing
+abbrev pub entryOf : Row → RowEntry
+entryOf (Start t) = Nothing
+entryOf (WithBus b) = Record (record { addition = OfBus b })
+entryOf (WithSource p) = Record (record { addition = OfSource p })
+entryOf Malformed = Nothing
 
 -- what follows additions, by how many rows stand before it and the network
 abbrev pub Following : Type 0
@@ -34,10 +34,6 @@ addedThen follow i n (e ∷ es) =
     (addedThen follow (i + 1) (afterAddition n (e .addition)) es)
     (refusedAt (additionNumber n (e .addition)) (i + 1))
 
--- the same by what the additions come to
-abbrev pub followed : Following → ℕ → AddedNetwork → Outcome
-followed follow i a = cond (eqb (a .number) 0) (follow (i + a .count) (a .network)) (refusedAt (a .number) (i + a .count + 1))
-
--- what follows the additions of a part: a row of no form, or the rows from the next place on
+-- what follows the additions of a part: a row that breaks the form, or the rows from the next place on
 abbrev pub behind : Part → List ℕ → Following
 behind part text i n = cond (part .malformed) (refusedAt 16 (i + 1)) (readFrom i n (rows (drop (part .next) text)))

@@ -90,7 +90,7 @@ fn closed_after(row: u32, s: Study) -> Reading
     }
 }
 
-// The rows behind the first, `begun`'s, added part by part up to the first that is refused.
+// The rows from a place on, behind the first row, which began the study: added part by part, up to the first that is refused.
 fn read_records(text: &[u8], from: usize, begun: Study) -> Reading
     requires { ⌜ length (now text) ≤ maxBytes ⌝ }
     requires { ⌜ (1 ≤ from) × (from ≤ length (now text) + 2) ⌝ }
@@ -103,7 +103,7 @@ fn read_records(text: &[u8], from: usize, begun: Study) -> Reading
         let part = part_of(text, at);
         let additions = part.additions;
         let added = add_all(study, additions);
-        row += added.count as u32;
+        row += added.accepted as u32;
         if added.number != 0 {
             return refused(added.number, row + 1);
         }
@@ -126,12 +126,12 @@ fn read_rows(text: &[u8]) -> Reading
     let Row::Start(tolerance) = said else {
         return refused(16, 1);
     };
-    let begun = start(tolerance);
-    if begun.number != 0 {
-        return refused(begun.number, 1);
+    let first = start(tolerance);
+    if first.number != 0 {
+        return refused(first.number, 1);
     }
-    let study = begun.study;
-    read_records(text, end + 2, study)
+    let begun = first.study;
+    read_records(text, end + 2, begun)
 }
 
 // The study that a text gives, closed, or the first ground on which it is refused, with the row. By the clause `calls` it is a study that

@@ -6,7 +6,7 @@ ghost use lib.ListN.{length, drop};
 ghost use Rattle.network.specs.Network.{Network};
 ghost use Rattle.network.specs.Additions.{listed};
 ghost use Rattle.reader.specs.File.{rows, readFrom};
-ghost use Rattle.reader.specs.Parts.{addedBy, addedThen, behind};
+ghost use Rattle.reader.specs.Parts.{entryOf, addedThen, behind};
 use crate::Row;
 use crate::rows::row_end;
 use crate::rows::row_of;
@@ -16,37 +16,37 @@ use network::additions::Additions;
 use network::additions::Entry;
 use network::additions::no_additions;
 
-// Additions, whether a row of no form stands behind them, and where the rows behind them begin.
+// Additions, whether a row that breaks the form stands behind them, and where the rows behind them begin.
 pub struct Part {
     pub additions: Additions,
     pub malformed: bool,
     pub next: usize,
 }
 
-// What a row behind the first adds: a record, or nothing, where its form is wrong.
-pub enum Adds {
+// What a row behind the first adds: a record, or nothing, where it breaks the form.
+pub enum RowEntry {
     Record(Entry),
     Nothing,
 }
 
-fn added_by(said: Row) -> Adds
-    ensures { λ r. ⌜ r ≡ addedBy said ⌝ }
+fn entry_of(said: Row) -> RowEntry
+    ensures { λ r. ⌜ r ≡ entryOf said ⌝ }
 {
     match said {
         Row::WithBus(b) => {
             let addition = Addition::OfBus(b);
-            Adds::Record(Entry { addition })
+            RowEntry::Record(Entry { addition })
         }
         Row::WithSource(p) => {
             let addition = Addition::OfSource(p);
-            Adds::Record(Entry { addition })
+            RowEntry::Record(Entry { addition })
         }
-        Row::Start(t) => Adds::Nothing,
-        Row::Malformed => Adds::Nothing,
+        Row::Start(t) => RowEntry::Nothing,
+        Row::Malformed => RowEntry::Nothing,
     }
 }
 
-// The rows that begin at a place: as many as one call adds, up to the text's end or to a row of no form.
+// The rows that begin at a place: at most as many as one call adds, up to the text's end or to a row that breaks the form.
 pub(crate) fn part_of(text: &[u8], from: usize) -> Part
     requires { ⌜ from < length (now text) ⌝ }
     ensures place { λ r. ⌜ (from + length (listed (r .additions)) ≤ r .next) × (r .next ≤ length (now (text .entry)) + 2) ⌝ }
@@ -66,8 +66,8 @@ pub(crate) fn part_of(text: &[u8], from: usize) -> Part
         }
         let end = row_end(text, at);
         let said = row_of(false, &text[at..end]);
-        let added = added_by(said);
-        let Adds::Record(entry) = added else {
+        let found = entry_of(said);
+        let RowEntry::Record(entry) = found else {
             return Part {
                 additions,
                 malformed: true,

@@ -1,5 +1,5 @@
--- THE LIMITS of document 01 as orders have moved them, and every number of the definitions and laws that moves with them. The code has them as `BUSES` (sweep),
--- `SOURCES`, `BRANCHES` and `TRANSFORMERS` (network).
+-- THE LIMITS of document 01 as orders have moved them, and every number of the definitions and laws that moves with them. The code has
+-- them as `BUSES` (sweep), `SOURCES`, `BRANCHES` and `TRANSFORMERS` (network).
 use Prim.Native.Nat.{ℕ, _+_, _*_, _^_}
 
 -- "The limits become 128 buses and 512 sources; depth stays." (document 02, order 2)
@@ -36,7 +36,7 @@ walkSteps = wayBranches + 1
 abbrev pub wayRatio : ℕ
 wayRatio = 1400
 
--- ---- the laws of errors and of sizes are proved for so many buses and sources: up to these the limits may rise, and no proof changes
+-- ---- the laws of errors and of sizes are proved for so many buses and sources: the limits stand at these, and a further raise moves these first
 abbrev pub coveredBuses : ℕ
 coveredBuses = 128
 

@@ -18,7 +18,7 @@ step-adding n (OfBus b) = refl
 step-adding n (OfSource p) = refl
 
 -- how many are accepted
-pub added-least : (i : ℕ) (n : Network) (es : List Entry) → i ≤ addedFrom i n es .count
+pub added-least : (i : ℕ) (n : Network) (es : List Entry) → i ≤ addedFrom i n es .accepted
 unfolding addedFrom
 added-least i n [] = omega arith
 added-least i n (e ∷ es) =
@@ -26,7 +26,7 @@ added-least i n (e ∷ es) =
     (λ t. rw t (omega (arith, added-least (i + 1) (afterAddition n (e .addition)) es)))
     (λ t. rw t (omega arith))
 
-pub added-most : (i : ℕ) (n : Network) (es : List Entry) → addedFrom i n es .count ≤ i + length es
+pub added-most : (i : ℕ) (n : Network) (es : List Entry) → addedFrom i n es .accepted ≤ i + length es
 unfolding addedFrom
 added-most i n [] = omega arith
 added-most i n (e ∷ es) =
@@ -35,17 +35,17 @@ added-most i n (e ∷ es) =
     (λ t. rw t (omega arith))
 
 -- THE NETWORK AFTER ADDITIONS is the network after the calls of those that are accepted
-pub added-run : (i : ℕ) (n : Network) (es : List Entry) → addedFrom i n es .network ≡ runFrom n (map called (take (addedFrom i n es .count - i) es))
+pub added-run : (i : ℕ) (n : Network) (es : List Entry) → addedFrom i n es .network ≡ runFrom n (map called (take (addedFrom i n es .accepted - i) es))
 unfolding addedFrom
 added-run i n [] = let z : i - i ≡ 0 = omega arith in rw z
 added-run i n (e ∷ es) =
     let a = e .addition in
     by-test (eqb (additionNumber n a) 0)
     (λ t.
-    let m = fewer (addedFrom (i + 1) (afterAddition n a) es .count) i (added-least (i + 1) (afterAddition n a) es) in
+    let m = fewer (addedFrom (i + 1) (afterAddition n a) es .accepted) i (added-least (i + 1) (afterAddition n a) es) in
     rw (t, m)
     (added-run (i + 1) (afterAddition n a) es
-    ∙ ap (λ (x : Network). runFrom x (map called (take (addedFrom (i + 1) (afterAddition n a) es .count - (i + 1)) es))) (sym (step-adding n a))))
+    ∙ ap (λ (x : Network). runFrom x (map called (take (addedFrom (i + 1) (afterAddition n a) es .accepted - (i + 1)) es))) (sym (step-adding n a))))
     (λ t. let z : i - i ≡ 0 = omega arith in rw (t, z))
   where
     fewer : (k i : ℕ) → i + 1 ≤ k → k - i ≡ suc (k - (i + 1))

@@ -1,10 +1,10 @@
 -- `read_records` meets its contract. The invariant: the rows that are left give the outcome of all.
 use mathlib.Core.Path.{_≡_, refl, sym, _∙_, ap}
-use Prim.Native.Nat.{ℕ, _+_, _-_, _≤_, _<_}
+use Prim.Native.Nat.{_+_, _-_, _≤_}
 use native.Mathlib.Omega.{arith}
 use borrow.Author.Needs.{needs}
 use lib.ListN.{length, drop}
-use Rattle.network.specs.Network.{Network, network}
+use Rattle.network.specs.Network.{network}
 use Rattle.network.specs.Additions.{listed, addedNetwork, AddedNetwork}
 use Rattle.network.specs.laws.Additions.{added-most}
 use Rattle.reader.specs.File.{rows, readFrom}
@@ -31,10 +31,10 @@ add-all-requires : tie.Need-add-all-requires Inv-loop μ-loop
 add-all-requires c κs = search needs
 
 -- the rows of a part lie between its place and the next, so that their numbers fit
-fits : (c : tie.After-add-all Inv-loop μ-loop) → c .before .before .before .before .loop .row + c .add-all .result .count ≤ c .before .before .part-of .result .next
+fits : (c : tie.After-add-all Inv-loop μ-loop) → c .before .before .before .before .loop .row + c .add-all .result .accepted ≤ c .before .before .part-of .result .next
 fits c =
     let es = listed (c .before .before .part-of .result .additions) in
-    let few = rw (← ap (λ (a : AddedNetwork). a .count) (c .add-all .ensures .0)) at (added-most 0 (network (c .before .before .before .before .loop .study)) es) in
+    let few = rw (← ap (λ (a : AddedNetwork). a .accepted) (c .add-all .ensures .0)) at (added-most 0 (network (c .before .before .before .before .loop .study)) es) in
     omega (arith, few, c .before .before .part-of .ensures .0 .0, c .before .before .before .before .loop .inv .1)
 
 cast-row : tie.Need-cast-row Inv-loop μ-loop

@@ -2,7 +2,7 @@
 -- refuses with 23 or 24 at the first row that it has no room for. Assumes nothing.
 use Prim.Native.Nat.{ℕ, _+_, _≤_, _<_}
 use mathlib.Core.Path.{_≡_, refl, sym, _∙_, ap, ap₂, subst}
-use mathlib.Core.Bool.{Bool, true, false, not, cond, _&&_, _||_}
+use mathlib.Core.Bool.{Bool, true, false, not, cond, _||_}
 use mathlib.Core.List.{List, [], _∷_, _++_}
 use native.Mathlib.Omega.{arith}
 use native.Mathlib.Nat.{le-trans}
@@ -14,10 +14,10 @@ use Rattle.network.specs.declared.study.Source.{Source}
 use Rattle.network.specs.Network.{Network, Limits}
 use Rattle.network.specs.Records.{inRange}
 use Rattle.network.specs.Grounds.{first, busGrounds, busNumberIn, afterBusIn, sourceGrounds, sourceNumberIn, afterSourceIn, emptyNetwork}
-use Rattle.network.specs.laws.Tests.{by-test, both-true}
+use Rattle.network.specs.laws.Tests.{by-test}
 use Rattle.reader.specs.declared.Row.{Row}
 use Rattle.reader.specs.declared.Row.the-variants.{Start, WithBus, WithSource, Malformed}
-use Rattle.reader.specs.File.{maxBytes, comma, letterS, letterB, letterP, busFields, sourceFields, rows, fields, allNumbers, amounts, recordOf, fieldsRow, rowOf, rowNumberIn, afterRowIn, Outcome, refusedAt, readFromIn, readIn}
+use Rattle.reader.specs.File.{maxBytes, letterS, letterB, letterP, rows, rowOf, rowNumberIn, afterRowIn, Outcome, refusedAt, readFromIn, readIn}
 use Rattle.reader.specs.laws.RowLetters.{Begins, row-begins}
 use Rattle.reader.specs.Editions.{lettered, tooManyBuses, tooMany, surplusAfter, fullAfter, firstSurplus, metAt, OldEdition}
 
@@ -295,7 +295,7 @@ module _ (L M : Limits) where
 -- THE OLD EDITION, of limits that the new one raises
 pub old-edition : (L M : Limits) → Raised L M → (text : List ℕ) → OldEdition L text (readIn M text)
 old-edition L M raised text = record {
-  before = as-before L M raised text;
+  asBefore = as-before L M raised text;
   larger = λ a h. surplus L M text a (λ e. omega (arith, no-surplus L text e)) .0;
   other = λ a z.
       by-test (eqb (readIn L text .number) 0)

@@ -7,7 +7,6 @@ use borrow.Author.Needs.{needs}
 use lib.ListN.{length, take, drop, length-set}
 use Rattle.tree.specs.Limits.{maxBuses, maxSources}
 use Rattle.network.specs.Network.{Network, network}
-use Rattle.network.specs.declared.additions.Addition.the-variants.{OfBus, OfSource}
 use Rattle.network.specs.declared.additions.Entry.{Entry}
 use Rattle.network.specs.Grounds.{busNumber, sourceNumber, runFrom}
 use Rattle.network.specs.Additions.{maxAdditions, listed, AddedNetwork, addedFrom, called}
@@ -19,7 +18,7 @@ use Rattle.network.proofs.additions.add_all.Tie as tie
 
 abbrev Inv-loop : tie.InvT-loop
 Inv-loop more total study₀ i₀ study i =
-    (i ≤ total) × (length (study .buses) ≡ maxBuses) × (length (study .sources) ≡ maxSources)
+    (i ≤ total) × (length (study .buses) ≡ maxBuses) × (length (study .sources) ≡ maxSources) × (i ≡ 0 → study ≡ study₀)
     × (addedFrom 0 (network study₀) (listed more) ≡ addedFrom i (network study) (drop i (listed more)))
 
 abbrev μ-loop : tie.MeasureT-loop
@@ -33,7 +32,7 @@ loop-holds c =
     let a = c .before .args in
     let buses : length (a .s .buses) ≡ maxBuses = search (needs, length-mapped) in
     let sources : length (a .s .sources) ≡ maxSources = search (needs, length-mapped) in
-    (omega arith, buses, sources, refl)
+    (omega arith, buses, sources, λ _. refl, refl)
 
 -- there is a record at the place of a turn
 inside : (c : tie.In-loop Inv-loop μ-loop) → (c .before .loop .i < length (listed (c .before .before .before .args .t2))) × (c .before .loop .i < maxAdditions)
@@ -57,13 +56,13 @@ enum-known-addition c = search needs
 bus-number-requires : tie.Need-bus-number-requires Inv-loop μ-loop
 bus-number-requires c κs = search needs
 
--- both clauses, from what all additions come to
-answered : (n : Network) (es : List Entry) {k i : ℕ} {m : Network} → addedFrom 0 n es ≡ record { number = k; count = i; network = m }
-    → (record { number = k; count = i; network = m } ≡ addedFrom 0 n es) × (m ≡ runFrom n (map called (take i es)))
-answered n es {k} {i} e =
+-- the clauses, from what all additions come to
+answered : (n : Network) (es : List Entry) {k i : ℕ} {m : Network} {Kept : Type 0} → addedFrom 0 n es ≡ record { number = k; accepted = i; network = m } → Kept
+    → (record { number = k; accepted = i; network = m } ≡ addedFrom 0 n es) × (Kept × (m ≡ runFrom n (map called (take i es))))
+answered n es {k} {i} e kept =
     let none : i - 0 ≡ i = omega arith in
-    let ran = sym (ap (λ (a : AddedNetwork). a .network) e) ∙ added-run 0 n es ∙ ap (λ (a : AddedNetwork). runFrom n (map called (take (a .count - 0) es))) e in
-    (sym e, rw none at ran)
+    let ran = sym (ap (λ (a : AddedNetwork). a .network) e) ∙ added-run 0 n es ∙ ap (λ (a : AddedNetwork). runFrom n (map called (take (a .accepted - 0) es))) e in
+    (sym e, (kept, rw none at ran))
 
 -- what each arm tries is the addition to the study of the turn
 tried-bus : (c : tie.After-bus-number Inv-loop μ-loop) → c .bus-number .result ≡ busNumber (network (c .before .before .before .before .before .before .before .loop .study)) (c .before .before .before .addition .given .0 .0)
@@ -83,7 +82,7 @@ returns c =
     let more = a .t2 in
     let h = inside (c .before .before .before .before .before .before .before) .0 in
     let refusal = addition-refused (more .count) (more .entries) (l .i) (network (l .study)) _ _ h (c .before .before .before .before .addition .given .1) in
-    answered (network (a .s)) (listed more) (l .inv .3 ∙ refusal _ (tried-bus (c .before)) (c .if1 .taken))
+    answered (network (a .s)) (listed more) (l .inv .4 ∙ refusal _ (tried-bus (c .before)) (c .if1 .taken)) (l .inv .3)
 
 -- an accepted bus found room
 bus-few : (c : tie.Else1 Inv-loop μ-loop) → c .before .before .before .before .before .before .before .before .loop .study .«bus_count» < maxBuses
@@ -109,11 +108,11 @@ cast-bus c = search needs
 place-in-requires : tie.Need-place-in-requires Inv-loop μ-loop
 place-in-requires c κs = search needs
 
-mul-at : tie.Need-mul-at Inv-loop μ-loop
-mul-at c = let h = c .place-in .ensures .0 in record { fits = omega arith }
+mul-b-2 : tie.Need-mul-b-2 Inv-loop μ-loop
+mul-b-2 c = let h = c .place-in .ensures .0 in record { fits = omega arith }
 
-element-copy-out-at : tie.Need-element-copy-out-at Inv-loop μ-loop
-element-copy-out-at c = c .place-in .ensures .0
+element-copy-out-b : tie.Need-element-copy-out-b Inv-loop μ-loop
+element-copy-out-b c = c .place-in .ensures .0
 
 source-number-requires : tie.Need-source-number-requires Inv-loop μ-loop
 source-number-requires c κs = search needs
@@ -125,7 +124,7 @@ returns-2 c =
     let more = a .t2 in
     let h = inside (c .before .before .before .before .before .before .before .before .before) .0 in
     let refusal = addition-refused (more .count) (more .entries) (l .i) (network (l .study)) _ _ h (c .before .before .before .before .before .before .addition2 .given .1) in
-    answered (network (a .s)) (listed more) (l .inv .3 ∙ refusal _ (tried-source (c .before)) (c .if2 .taken))
+    answered (network (a .s)) (listed more) (l .inv .4 ∙ refusal _ (tried-source (c .before)) (c .if2 .taken)) (l .inv .3)
 
 -- an accepted source found room
 source-few : (c : tie.Else2 Inv-loop μ-loop) → c .before .before .before .before .before .before .before .before .before .before .loop .study .«source_count» < maxSources
@@ -155,7 +154,8 @@ loop-again c =
       omega arith,
       length-set (l .study .buses) (l .study .«bus_count») (c .before .before .before .before .addition .given .0 .0) ∙ l .inv .1,
       l .inv .2,
-      l .inv .3 ∙ acceptance ∙ ap (λ (n : Network). addedFrom (l .i + 1) n (drop (l .i + 1) (listed more))) (sym (bus-stored (l .study) _ (l .inv .1) z)),
+      λ e. absurd (omega arith),
+      l .inv .4 ∙ acceptance ∙ ap (λ (n : Network). addedFrom (l .i + 1) n (drop (l .i + 1) (listed more))) (sym (bus-stored (l .study) _ (l .inv .1) z)),
     )
 
 loop-less-2 : tie.Need-loop-less-2 Inv-loop μ-loop
@@ -171,7 +171,8 @@ loop-again-2 c =
       omega arith,
       l .inv .1,
       length-set (l .study .sources) (l .study .«source_count») (c .before .before .before .before .before .before .addition2 .given .0 .0) ∙ l .inv .2,
-      l .inv .3 ∙ acceptance ∙ ap (λ (n : Network). addedFrom (l .i + 1) n (drop (l .i + 1) (listed more))) (sym (source-stored (l .study) _ (l .inv .2) z)),
+      λ e. absurd (omega arith),
+      l .inv .4 ∙ acceptance ∙ ap (λ (n : Network). addedFrom (l .i + 1) n (drop (l .i + 1) (listed more))) (sym (source-stored (l .study) _ (l .inv .2) z)),
     )
 
 returns-3 : tie.Need-returns-3 Inv-loop μ-loop
@@ -179,7 +180,7 @@ returns-3 c =
     let l = c .before .loop in
     let a = c .before .before .before .args in
     let more = a .t2 in
-    answered (network (a .s)) (listed more) (l .inv .3 ∙ additions-end (listed more) (l .i) (network (l .study)) (omega (arith, c .before .before .total-of .ensures)))
+    answered (network (a .s)) (listed more) (l .inv .4 ∙ additions-end (listed more) (l .i) (network (l .study)) (omega (arith, c .before .before .total-of .ensures))) (l .inv .3)
 
 pub add-all-spec : {M : Type 1} → statement M
 add-all-spec =
@@ -201,8 +202,8 @@ add-all-spec =
     enum-known-addition-2
     cast-bus
     place-in-requires
-    mul-at
-    element-copy-out-at
+    mul-b-2
+    element-copy-out-b
     source-number-requires
     returns-2
     mul-p

@@ -1,6 +1,5 @@
 -- `total_of` meets its contract, by the two answers of its test.
 use mathlib.Core.Path.{_≡_, sym}
-use native.Mathlib.Omega.{arith}
 use borrow.Author.Needs.{needs}
 use lib.ListN.{length}
 use Rattle.network.specs.Additions.{maxAdditions}

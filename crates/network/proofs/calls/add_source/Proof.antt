@@ -19,11 +19,11 @@ cast-bus c = search needs
 place-in-requires : tie.Need-place-in-requires
 place-in-requires c κs = search needs
 
-mul-at : tie.Need-mul-at
-mul-at c = let h = c .place-in .ensures .0 in record { fits = omega arith }
+mul-b : tie.Need-mul-b
+mul-b c = let h = c .place-in .ensures .0 in record { fits = omega arith }
 
-element-copy-out-at : tie.Need-element-copy-out-at
-element-copy-out-at c = c .place-in .ensures .0
+element-copy-out-b : tie.Need-element-copy-out-b
+element-copy-out-b c = c .place-in .ensures .0
 
 source-number-requires : tie.Need-source-number-requires
 source-number-requires c κs = search needs
@@ -66,4 +66,4 @@ returns-2 c =
 
 pub add-source-spec : {M : Type 1} → statement M
 add-source-spec =
-    tie.close (tie.spec cast-bus place-in-requires mul-at element-copy-out-at source-number-requires returns mul-p element-set-from-p add-next returns-2)
+    tie.close (tie.spec cast-bus place-in-requires mul-b element-copy-out-b source-number-requires returns mul-p element-set-from-p add-next returns-2)

@@ -47,8 +47,8 @@ returns : tie.Need-returns
 unfolding sourceRecordNumber
 returns c = λ l e h.
     let a = c .before .before .before .before .before .before .before .before .before .args in
-    let chained : c .unless5 .result ≡ cond (sourceKindOk (a .p)) (cond (a .there) (cond (fieldsOk (a .p)) (cond (machineVoltsOk (a .at) (a .p)) (cond (feederPlaceOk (a .j) (a .p)) 0 14) 13) 12) 11) 10 = cc in
-    rw e (chained ∙ chain (sourceKindOk (a .p)) (a .there) (fieldsOk (a .p)) (machineVoltsOk (a .at) (a .p)) _ (feederPlaceOk (a .j) (a .p)) (λ u. ap (λ (b : Bus). machineVoltsOk b (a .p)) (sym (h u))))
+    let chained : c .unless5 .result ≡ cond (sourceKindOk (a .p)) (cond (a .there) (cond (fieldsOk (a .p)) (cond (machineVoltsOk (a .b) (a .p)) (cond (feederPlaceOk (a .j) (a .p)) 0 14) 13) 12) 11) 10 = cc in
+    rw e (chained ∙ chain (sourceKindOk (a .p)) (a .there) (fieldsOk (a .p)) (machineVoltsOk (a .b) (a .p)) _ (feederPlaceOk (a .j) (a .p)) (λ u. ap (λ (b : Bus). machineVoltsOk b (a .p)) (sym (h u))))
 
 pub source-record-number-spec : {M : Type 1} → statement M
 source-record-number-spec =

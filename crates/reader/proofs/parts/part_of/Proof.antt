@@ -5,10 +5,12 @@ use Prim.Native.Nat.{ℕ, _+_, _-_, _≤_, _<_}
 use native.Mathlib.Omega.{arith}
 use native.Mathlib.Numerals.{add-one}
 use borrow.Author.Needs.{needs}
-use lib.ListN.{length, take, drop, set, length-take, length-set}
+use lib.ListN.{length, take, drop, set, length-take, length-set, length-replicate}
 use lib.Seq.{take-suc-set}
+use Rattle.network.specs.declared.additions.Addition.the-variants.{OfBus}
+use Rattle.network.specs.declared.additions.Additions.{Additions}
 use Rattle.network.specs.declared.additions.Entry.{Entry}
-use Rattle.network.specs.Network.{Network}
+use Rattle.network.specs.Network.{Network, blank}
 use Rattle.network.specs.Additions.{maxAdditions, listed}
 use Rattle.network.specs.laws.Tests.{never}
 use Rattle.reader.specs.File.{rows, refusedAt, readFrom}
@@ -31,7 +33,9 @@ no-additions-requires c κs = search needs
 loop-holds : tie.Need-loop-holds Inv-loop μ-loop
 loop-holds c =
     let none = c .no-additions .ensures in
-    (none .1, omega (arith, none .0), omega (arith, none .0), omega arith, λ i n p. rw (none .0))
+    let count = ap (λ (a : Additions). a .count) none in
+    let whole = ap (λ (a : Additions). length (a .entries)) none ∙ length-replicate {A = Entry} maxAdditions (record { addition = OfBus blank }) in
+    (whole, omega (arith, count), omega (arith, count), omega arith, λ i n p. rw none)
 
 -- the additions are as many as are counted, or fewer
 few : (count : ℕ) (entries : List Entry) → length (take count entries) ≤ count
@@ -57,11 +61,11 @@ part-row-of-end c = search needs
 row-of-requires : tie.Need-row-of-requires Inv-loop μ-loop
 row-of-requires c κs = search needs
 
-added-by-requires : tie.Need-added-by-requires Inv-loop μ-loop
-added-by-requires c κs = search needs
+entry-of-requires : tie.Need-entry-of-requires Inv-loop μ-loop
+entry-of-requires c κs = search needs
 
-enum-known-added : tie.Need-enum-known-added Inv-loop μ-loop
-enum-known-added c = search needs
+enum-known-found : tie.Need-enum-known-found Inv-loop μ-loop
+enum-known-found c = search needs
 
 enum-told : tie.Need-enum-told Inv-loop μ-loop
 enum-told c = search needs
@@ -72,7 +76,7 @@ returns-2 c =
     let text = c .before .before .before .before .before .before .before .before .before .before .before .args .text .now in
     let end = c .before .before .before .before .before .row-end in
     let said = c .before .before .before .row-of in
-    let wrong = row-malformed text (l .at) (end .result) (c .before .before .before .before .before .before .before .loop-test .taken) (end .ensures .0) (said .result) (said .ensures) (sym (c .before .before .added-by .ensures) ∙ c .enum-told .given .1) in (
+    let wrong = row-malformed text (l .at) (end .result) (c .before .before .before .before .before .before .before .loop-test .taken) (end .ensures .0) (said .result) (said .ensures) (sym (c .before .before .entry-of .ensures) ∙ c .enum-told .given .1) in (
       (omega (arith, few (l .additions .count) (l .additions .entries)), l .inv .3),
       (λ z. never (sym z), λ i n p. l .inv .4 i n p ∙ then-same (λ j m. readFrom j m (rows (drop (l .at) text))) (λ j m. refusedAt 16 (j + 1)) wrong i n (listed (l .additions)) p),
     )
@@ -102,8 +106,8 @@ loop-again c =
     let text = c .before .before .before .before .before .before .before .before .before .before .before .before .args .text .now in
     let end = c .before .before .before .before .before .before .row-end in
     let said = c .before .before .before .before .row-of in
-    let entry = c .before .added .given .0 .0 in
-    let more = row-adds text (l .at) (end .result) (c .before .before .before .before .before .before .before .before .loop-test .taken) (end .ensures .0) (said .result) (said .ensures) entry (sym (c .before .before .before .added-by .ensures) ∙ c .before .added .given .1) in
+    let entry = c .before .found .given .0 .0 in
+    let more = row-adds text (l .at) (end .result) (c .before .before .before .before .before .before .before .before .loop-test .taken) (end .ensures .0) (said .result) (said .ensures) entry (sym (c .before .before .before .entry-of .ensures) ∙ c .before .found .given .1) in
     let one : take (l .additions .count + 1) (set (l .additions .entries) (l .additions .count) entry) ≡ take (l .additions .count) (l .additions .entries) ++ (entry ∷ []) =
     rw add-one (take-suc-set (l .additions .entries) (l .additions .count) entry (omega (arith, room c, l .inv .0)))
     in (
@@ -137,8 +141,8 @@ part-of-spec =
     part-row-of-start
     part-row-of-end
     row-of-requires
-    added-by-requires
-    enum-known-added
+    entry-of-requires
+    enum-known-found
     enum-told
     returns-2
     mul-entry

@@ -1,7 +1,7 @@
--- `added_by` meets its contract, by what the row says.
+-- `entry_of` meets its contract, by what the row says.
 use borrow.Author.Needs.{needs}
-use Rattle.reader.proofs.parts.added_by.Statement.{statement}
-use Rattle.reader.proofs.parts.added_by.Tie as tie
+use Rattle.reader.proofs.parts.entry_of.Statement.{statement}
+use Rattle.reader.proofs.parts.entry_of.Tie as tie
 
 enum-known-said : tie.Need-enum-known-said
 enum-known-said c = search needs
@@ -27,8 +27,8 @@ returns-3 c = search needs
 returns-4 : tie.Need-returns-4
 returns-4 c = search needs
 
-pub added-by-spec : {M : Type 1} → statement M
-added-by-spec =
+pub entry-of-spec : {M : Type 1} → statement M
+entry-of-spec =
     tie.close
     (tie.spec
     enum-known-said
