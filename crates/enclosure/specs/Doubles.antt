@@ -1,6 +1,6 @@
 -- The calculation in f64, one definition for each function of src/. How near each is to the exact operation is proved in laws/F64Errors
 -- and laws/WholeBounds.
-use Prim.Native.Nat.{ℕ, _^_, min, zero, suc, _+_, _*_}
+use Prim.Native.Nat.{ℕ, _^_, min, zero, suc, _+_, _-_, _*_, _/_}
 use lib.Ieee.{Float, binary64, ofBits, add, mul, div, eq, le}
 use mathlib.Core.Bool.{Bool, cond}
 use Rattle.enclosure.specs.Exact.{ofNat, Ops}
@@ -71,3 +71,22 @@ upperOf p q z = cond (empty z) 0 (sizeBelow 1073741825 p q z + 1)
 
 abbrev pub boundsOf : ℕ → ℕ → Complex → Bounds
 boundsOf p q z = record { lower = lowerOf p q z; upper = upperOf p q z }
+
+-- ---- products of many factors, and a magnitude from its square
+abbrev pub unity : Float
+unity = ofBits binary64 4607182418800017408
+
+-- 2 ^ -120: far below what any figure shows, far above what f64 loses
+abbrev pub faintest : Float
+faintest = ofBits binary64 4066750463515557888
+
+-- x·y, and no less than `least`
+unfoldable pub floored : Float → Float → Float → Float
+floored least x y = cond (le (mul binary64 x y) least) least (mul binary64 x y)
+
+-- one root for both bounds, with a margin of one part in 2 ^ 16: √x is at most r + 1 and at least `underRoot r`
+unfoldable pub rootFine : Float → ℕ
+rootFine x = rootBelow (mul binary64 x (ratio 65537 65536))
+
+abbrev pub underRoot : ℕ → ℕ
+underRoot r = r - r / 16384 - 1

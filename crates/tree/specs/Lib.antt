@@ -2,4 +2,6 @@
 pub mod Limits
 pub mod Grid
 pub mod Converters
+pub mod Shares
+pub mod Ways
 pub mod laws
