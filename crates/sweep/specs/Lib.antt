@@ -2,4 +2,5 @@
 pub mod Columns
 pub mod Points
 pub mod Sweep
+pub mod Crossings
 pub mod laws

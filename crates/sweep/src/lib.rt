@@ -4,6 +4,7 @@
 pub mod columns;
 pub mod converters;
 pub mod sweeps;
+pub mod ways;
 
 // The buses that a column has room for.
 pub const BUSES: usize = 128;

@@ -35,7 +35,7 @@ pub struct Falls {
 }
 
 // An impedance on the other side of a transformer: times the square of p/q.
-fn referred(z: Complex, p: u32, q: u32) -> Complex
+pub(crate) fn referred(z: Complex, p: u32, q: u32) -> Complex
     ensures { λ r. ⌜ r ≡ timesSquare doubles p q z ⌝ }
 {
     scale(scale(z, p, q), p, q)

@@ -17,3 +17,4 @@ pub mod ConvertersByRoot
 pub mod CurrentErrors
 pub mod BusSums
 pub mod Example
+pub mod Ways
