@@ -34,7 +34,7 @@ crossingAt a b z down up = record {
 }
 
 -- of each bus, by what the sweeps leave there
-abbrev crossingOf : (ℕ → ℕ) → (ℕ → ℕ) → (ℕ → Complex) → (ℕ → Complex) → (ℕ → Complex) → ℕ → Crossing
+abbrev pub crossingOf : (ℕ → ℕ) → (ℕ → ℕ) → (ℕ → Complex) → (ℕ → Complex) → (ℕ → Complex) → ℕ → Crossing
 crossingOf above below z down up i = crossingAt (above i) (below i) (z i) (down i) (up i)
 
 unfoldable pub crossingsOf : (ℕ → ℕ) → (ℕ → ℕ) → (ℕ → Complex) → (ℕ → Complex) → (ℕ → Complex) → ℕ → Crossings

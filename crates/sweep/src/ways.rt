@@ -1,11 +1,10 @@
 // Ways between two buses: how a current divides over each branch, and products over the branches between the two.
 ghost use mathlib.Core.Path.{_≡_};
-ghost use mathlib.Core.List.{List};
-ghost use Prim.Native.Nat.{ℕ, _≤_};
+ghost use Prim.Native.Nat.{min};
 ghost use Rattle.enclosure.specs.Doubles.{floored};
 ghost use Rattle.tree.specs.Limits.{maxBuses};
 ghost use Rattle.tree.specs.Ways.{dividerBy, overWay};
-ghost use Rattle.sweep.specs.Points.{numberAt, pointAt, columnGrid};
+ghost use Rattle.sweep.specs.Points.{numberAt, pointAt};
 ghost use Rattle.sweep.specs.Crossings.{factorAt, crossingAt, crossingsOf, reachOf};
 use crate::BUSES;
 use crate::columns::clamped;
@@ -104,7 +103,7 @@ pub fn crossings_of<'a>(
     up_im: &'a [f64; BUSES],
     n: usize,
 ) -> Crossings
-    ensures { λ r. ⌜ r ≡ crossingsOf (numberAt (now (above .entry))) (numberAt (now (below .entry))) (pointAt (now («z_re» .entry)) (now («z_im» .entry))) (pointAt (now («down_re» .entry)) (now («down_im» .entry))) (pointAt (now («up_re» .entry)) (now («up_im» .entry))) n ⌝ }
+    ensures { λ r. ⌜ r ≡ crossingsOf (numberAt (now (above .entry))) (numberAt (now (below .entry))) (pointAt (now («z_re» .entry)) (now («z_im» .entry))) (pointAt (now («down_re» .entry)) (now («down_im» .entry))) (pointAt (now («up_re» .entry)) (now («up_im» .entry))) (min n maxBuses) ⌝ }
 {
     let mut divider_up = [1.0; BUSES];
     let mut divider_down = [1.0; BUSES];
@@ -171,7 +170,7 @@ pub fn reach_of<'a>(
     b: usize,
     n: usize,
 ) -> Reach
-    ensures { λ r. ⌜ r ≡ reachOf (numberAt (now (parents .entry))) (factorAt (now («divider_up» .entry))) (factorAt (now («divider_down» .entry))) (factorAt (now («ratio_up» .entry))) (factorAt (now («ratio_down» .entry))) b n ⌝ }
+    ensures { λ r. ⌜ r ≡ reachOf (numberAt (now (parents .entry))) (factorAt (now («divider_up» .entry))) (factorAt (now («divider_down» .entry))) (factorAt (now («ratio_up» .entry))) (factorAt (now («ratio_down» .entry))) b (min n maxBuses) ⌝ }
 {
     let least = f64::from_bits(0x3870_0000_0000_0000);
     let mut dividers = [1.0; BUSES];

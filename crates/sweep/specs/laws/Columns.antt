@@ -1,14 +1,14 @@
 -- What stands in a column, and what a point put into one changes. Assumes nothing.
 use Prim.Native.Nat.{ℕ, zero, suc, _+_, _<_}
 use mathlib.Core.Path.{_≡_, refl, sym, _∙_, ap, ap₂}
-use mathlib.Core.Bool.{cond}
+use mathlib.Core.Bool.{Bool, true, false, cond}
 use mathlib.Core.List.{List}
 use native.Mathlib.Omega.{arith}
-use lib.Dec.{ltb}
+use lib.Dec.{ltb, eqb}
 use lib.Ieee.{Float, nan}
-use lib.ListN.{length, getD, length-set, length-replicate}
+use lib.ListN.{length, getD, set, replicate, length-set, length-replicate, getD-replicate}
 use lib.Seq.{ext-getD, getD-set-same, getD-set-other}
-use borrow.Author.Tests.{lt-ltb}
+use borrow.Author.Tests.{ltb-true, ltb-false, lt-ltb, le-ltb, eqb-true, eqb-false}
 use Rattle.enclosure.specs.declared.Complex.{Complex}
 use Rattle.enclosure.specs.Doubles.{nought, none}
 use Rattle.sweep.specs.declared.columns.Points.{Points}
@@ -89,3 +89,30 @@ put-same s i x h l =
 pub put-other : (s : Points) (i j : ℕ) (x : Complex) → (j ≡ i → ⊥) → pointOf (put s i x) j ≡ pointOf s j
 put-other s i j x h =
     ap₂ (λ (a b : Float). cond (ltb j maxBuses) (record { re = a; im = b }) none) (getD-set-other (s .re) i j (x .re) nan h) (getD-set-other (s .im) i j (x .im) nan h)
+
+-- ---- an array that a loop fills: f at the places below b, z at every other
+abbrev pub FilledTo : {A : Type 0} → A → (ℕ → A) → ℕ → List A → Type 0
+FilledTo z f b l = (length l ≡ maxBuses) × ((k : ℕ) → k < maxBuses → getD l k z ≡ cond (ltb k b) (f k) z)
+
+module _ {A : Type 0} (z : A) (f : ℕ → A) where
+  pub filled-to-none : (l : List A) → l ≡ replicate maxBuses z → FilledTo z f 0 l
+  filled-to-none l e = rw e (length-replicate maxBuses z, λ k m. getD-replicate maxBuses k z z m ∙ sym (rw (le-ltb k 0 (omega arith))))
+
+  pub filled-to-more : (l : List A) (b : ℕ) (y : A) → b < maxBuses → y ≡ f b → FilledTo z f b l → FilledTo z f (b + 1) (set l b y)
+  filled-to-more l b y m e h = (length-set l b y ∙ h .0, λ k n. go k n (eqb k b) refl)
+    where
+      same : (k : ℕ) → (k ≡ b → ⊥) → ltb k b ≡ ltb k (b + 1)
+      same k d = on (ltb k b) refl
+        where
+          on : (t : Bool) → ltb k b ≡ t → t ≡ ltb k (b + 1)
+          on true p = sym (lt-ltb k (b + 1) (omega (arith, ltb-true k b p)))
+          on false p = sym (le-ltb k (b + 1) (omega (arith, ltb-false k b p, d)))
+
+      go : (k : ℕ) → k < maxBuses → (t : Bool) → eqb k b ≡ t → getD (set l b y) k z ≡ cond (ltb k (b + 1)) (f k) z
+      go k n true q = rw (eqb-true k b q, lt-ltb b (b + 1) (omega arith)) (getD-set-same l b y z (omega (arith, h .0)) ∙ e)
+      go k n false q =
+          let d = eqb-false k b q in
+          getD-set-other l b k y z d ∙ h .1 k n ∙ ap (λ (t : Bool). cond t (f k) z) (same k d)
+
+  pub filled-to-column : (l : List A) (b : ℕ) → FilledTo z f b l → l ≡ column (λ k. cond (ltb k b) (f k) z)
+  filled-to-column l b h = column-only (λ k. cond (ltb k b) (f k) z) z l (h .0) (h .1)

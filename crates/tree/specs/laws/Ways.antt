@@ -99,3 +99,25 @@ over-way-same p p′ up up′ down down′ least n hp hu hd =
     between-same p p′ (λ b c v. floored least v (cond (ltb c b) (up b) (down c))) (λ b c v. floored least v (cond (ltb c b) (up′ b) (down′ c))) unity n hp
     (λ i x z l t. rw (lt-ltb (p i) i t) (ap (floored least x) (hu i z l)))
     (λ i x z l t. rw (le-ltb i (p i) (omega arith)) (ap (floored least x) (hd i z l)))
+
+-- ---- a product over the way, step by step
+module _ (p : ℕ → ℕ) (up down : ℕ → Float) (least : Float) (b j : ℕ) where
+  pub over-way-child : b < j → p j < j → overWay p up down least b j ≡ floored least (overWay p up down least b (p j)) (down j)
+  unfolding overWay
+  over-way-child l t = between-child p (λ b c v. floored least v (cond (ltb c b) (up b) (down c))) unity b j l t ∙ rw (le-ltb j (p j) (omega arith))
+
+  pub over-way-parent : j < b → p b < b → overWay p up down least b j ≡ floored least (overWay p up down least (p b) j) (up b)
+  unfolding overWay
+  over-way-parent l t = between-parent p (λ b c v. floored least v (cond (ltb c b) (up b) (down c))) unity b j l t ∙ rw (lt-ltb (p b) b t)
+
+  pub over-way-here : b ≡ j → overWay p up down least b j ≡ unity
+  unfolding overWay
+  over-way-here = between-here p (λ b c v. floored least v (cond (ltb c b) (up b) (down c))) unity b j
+
+  pub over-way-stuck-child : b < j → j ≤ p j → overWay p up down least b j ≡ unity
+  unfolding overWay
+  over-way-stuck-child = between-stuck-child p (λ b c v. floored least v (cond (ltb c b) (up b) (down c))) unity b j
+
+  pub over-way-stuck-parent : j < b → b ≤ p b → overWay p up down least b j ≡ unity
+  unfolding overWay
+  over-way-stuck-parent = between-stuck-parent p (λ b c v. floored least v (cond (ltb c b) (up b) (down c))) unity b j

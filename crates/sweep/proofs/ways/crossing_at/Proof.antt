@@ -1,4 +1,6 @@
+-- `crossing_at` calculates its definition. Assumes nothing.
 use borrow.Author.Needs.{needs}
+use Rattle.sweep.specs.Crossings.{crossingAt}
 use Rattle.sweep.proofs.ways.crossing_at.Statement.{statement}
 use Rattle.sweep.proofs.ways.crossing_at.Tie as tie
 
@@ -36,7 +38,13 @@ int-to-float-t17 : tie.Need-int-to-float-t17
 int-to-float-t17 c = search needs
 
 returns : tie.Need-returns
-returns c = ?
+unfolding crossingAt
+returns c =
+    let d2 = c .before .before .before .before in
+    let d1 = d2 .before .before in
+    let i1 = d1 .before .before in
+    let n2 = i1 .before in
+    rw (← n2 .before .number-at .ensures, ← n2 .number-at2 .ensures, ← i1 .inverse .ensures, ← d1 .before .referred .ensures, ← d1 .divider .ensures, ← d2 .before .inverse2 .ensures, ← d2 .divider2 .ensures)
 
 pub crossing-at-spec : {M : Type 1} → statement M
 crossing-at-spec =
