@@ -21,7 +21,7 @@ use Rattle.elements.specs.Impedance.{split, feeder, motor, generator}
 use Rattle.tree.specs.Grid.{parentOf}
 use Rattle.tree.specs.laws.AdmittanceSizes.{AtLeast, Low, most-inverse}
 use Rattle.tree.specs.laws.TreeBounds.{tenths}
-use Rattle.network.specs.Network.{Network, busAt, sourceAt, ifTransformer, transformersOf}
+use Rattle.network.specs.Network.{Network, maxTransformers, busAt, sourceAt, ifTransformer, transformersOf}
 use Rattle.network.specs.SourceKinds.{isMachine, isGenerator, impedanceOf}
 use Rattle.network.specs.Grid.{aboveOf, belowOf, admittanceOf, gridOf}
 use Rattle.network.specs.Demand.{driving}
@@ -31,7 +31,7 @@ use Rattle.network.specs.laws.Ways.{way-more}
 use Rattle.network.specs.laws.AcceptedRecords.{bus-volts, bus-parent, bus-kind, bus-depth, line-volts, transformer-volts, source-kind-ok, source-bus, feeder-ranges, generator-ranges, motor-ranges, machine-volts}
 use Rattle.network.specs.laws.AcceptedTree.{voltsOf, machine-bounded, machine-reactive}
 
--- ---- |Y|·Un² of a machine, kind by kind: its impedance is at least Un²/2 ^ 37 ohms
+-- ---- the impedance of a machine, kind by kind: R + X is at least Un²/2 ^ 37 ohms
 -- R + X of an impedance of 10⁸ that is split is 10⁸ or more, but for what rounding f down takes
 split-sum : (ρ : ℕ) → ρ ≤ 200 → 99999700 ≤ splitOf ρ * ρ + splitOf ρ * 100
 split-sum ρ h = go (splitOf ρ) (below-of-squares 100000000 ((splitOf ρ + 1) * (100 + ρ)) (le-trans next (poly (splitOf ρ ∷ ρ ∷ []) (search read depth 40 fits 20000) refl)))
@@ -144,13 +144,12 @@ module _ {n : Network} (r : Rebuilt n) (b : ℕ) (l : b < length (n .buses)) whe
       most : driving n b ≤ 110 * 420000
       most = mul-le-mul (factorC-sized (n .tolerance) (voltsOf n b) .1) (bus-volts r b l .1)
 
--- ---- ways, by their transformers alone: a line has equal nominal volts at both ends, and its ratio is 1
+-- ---- the rated ratio of a branch against the nominal one, counting transformers alone: of a line both are 1
 same : (u v : ℕ) → u ≡ v → 1 * (1 * u) ≤ 1 * (1 * v)
 same u v e = omega arith
 
 module _ {n : Network} (r : Rebuilt n) (i : ℕ) where
-  -- "4 of them transformers"
-  pub transformers-most : i < length (n .buses) → transformersOf (n .buses) i ≤ 4
+  pub transformers-most : i < length (n .buses) → transformersOf (n .buses) i ≤ maxTransformers
   transformers-most l = bus-depth r i l .1
 
   module _ (z : 0 < i) (l : i < length (n .buses)) where
@@ -174,33 +173,40 @@ module _ {n : Network} (r : Rebuilt n) (i : ℕ) where
     transformers-more = let e = way-more ifTransformer (n .buses) i (bus-parent r i l z) in omega arith
 
 -- ---- the square of a share, in steps, is at most 2 ^ 100. Over plain numbers: v is c·Un of the queried bus in hundredths of a volt, Ub and
--- Uj the nominal volts there and at the machine, (re + j·im)/den its admittance, rt/ru the rated ratios of the way, by 8 transformers
--- at the most, from nominal ones
-module _ (v Ub Uj re im den rt ru : ℕ) (hv : v ≤ 110 * Ub) (hy : (re + im) * (Uj * Uj) ≤ 2 ^ 38 * den) (hr : 9 ^ 8 * (rt * Ub) ≤ 11 ^ 8 * (ru * Uj)) where
-  -- (11/9) ^ 8 is below 5
-  five : rt * Ub ≤ 5 * (ru * Uj)
-  five = from-over (Ub ∷ Uj ∷ rt ∷ ru ∷ []) (9 ^ 8) (lit< tt) hr (search read depth 40 fits 20000) refl
+-- Uj the nominal volts there and at the machine, (re + j·im)/den its admittance, and rt/ru the product of the rated ratios between them,
+-- which 8 transformers at the most take away from the nominal one
+-- (11/9) ^ 8 is below 5
+fivefold : (Ub Uj rt ru : ℕ) → 9 ^ 8 * (rt * Ub) ≤ 11 ^ 8 * (ru * Uj) → rt * Ub ≤ 5 * (ru * Uj)
+fivefold Ub Uj rt ru hr = from-over (Ub ∷ Uj ∷ rt ∷ ru ∷ []) (9 ^ 8) (lit< tt) hr (search read depth 40 fits 20000) refl
 
-  -- at the queried bus, in steps of 1/4,096 A
-  pub small-share : 100 ≤ Ub → v * v * 16777216 * (re * re + im * im) * (rt * rt * (rt * rt)) ≤ 2 ^ 100 * (30000 * (den * den) * (ru * ru * (ru * ru)))
-  small-share hb =
-      from-over (v ∷ Ub ∷ Uj ∷ re ∷ im ∷ den ∷ rt ∷ ru ∷ []) (Ub * Ub) (mul-pos some some)
-      (Ub * Ub * 16777216 * (re * re + im * im) * (rt * rt * (rt * rt)) ⋆ mul-le-mul hv hv
-      ⊹ 12100 * 16777216 * (re * re + im * im) ⋆ mul-le-mul (mul-le-mul five five) (mul-le-mul five five)
-      ⊹ 12100 * 625 * 16777216 * (ru * ru * (ru * ru)) ⋆ mul-le-mul hy hy
-      ⊹ 2 ^ 100 * 30000 * (den * den) * (ru * ru * (ru * ru)) ⋆ mul-le-mul hb hb)
-      (search read depth 40 fits 20000) refl
-    where
-      some : 0 < Ub
-      some = le-trans (lit≤ tt) hb
+-- at the queried bus, in steps of 1/4,096 A
+pub small-share : (v Ub Uj re im den rt ru : ℕ) → v ≤ 110 * Ub → 100 ≤ Ub → (re + im) * (Uj * Uj) ≤ 2 ^ 38 * den → 9 ^ 8 * (rt * Ub) ≤ 11 ^ 8 * (ru * Uj)
+    → v * v * 16777216 * (re * re + im * im) * (rt * rt * (rt * rt)) ≤ 2 ^ 100 * (30000 * (den * den) * (ru * ru * (ru * ru)))
+small-share v Ub Uj re im den rt ru hv hb hy hr =
+    from-over (v ∷ Ub ∷ Uj ∷ re ∷ im ∷ den ∷ rt ∷ ru ∷ []) (Ub * Ub) (mul-pos some some)
+    (Ub * Ub * 16777216 * (re * re + im * im) * (rt * rt * (rt * rt)) ⋆ mul-le-mul hv hv
+    ⊹ 12100 * 16777216 * (re * re + im * im) ⋆ mul-le-mul (mul-le-mul five five) (mul-le-mul five five)
+    ⊹ 12100 * 625 * 16777216 * (ru * ru * (ru * ru)) ⋆ mul-le-mul hy hy
+    ⊹ 2 ^ 100 * 30000 * (den * den) * (ru * ru * (ru * ru)) ⋆ mul-le-mul hb hb)
+    (search read depth 40 fits 20000) refl
+  where
+    some : 0 < Ub
+    some = le-trans (lit≤ tt) hb
 
-  -- at the terminals of a generator of Ur rated volts, in steps of 1/40,960 of its rated current
-  pub small-rated : (Ur kva : ℕ) → 10 * Ur ≤ 11 * Uj → 10 ≤ kva → v * v * 16777216 * (re * re + im * im) * (rt * Ur * (rt * Ur)) * 3 ≤ 2 ^ 100 * (30000 * (den * den) * (ru * (100 * kva) * (ru * (100 * kva))))
-  small-rated Ur kva hu hk =
-      from-over (v ∷ Ub ∷ Uj ∷ re ∷ im ∷ den ∷ rt ∷ ru ∷ Ur ∷ kva ∷ []) 100 (lit< tt)
-      (300 * 16777216 * (re * re + im * im) * (rt * rt * (Ur * Ur)) ⋆ mul-le-mul hv hv
-      ⊹ 300 * 12100 * 16777216 * (re * re + im * im) * (Ur * Ur) ⋆ mul-le-mul five five
-      ⊹ 3 * 12100 * 25 * 16777216 * (re * re + im * im) * (ru * ru * (Uj * Uj)) ⋆ mul-le-mul hu hu
-      ⊹ 3 * 12100 * 25 * 121 * 16777216 * (ru * ru) ⋆ mul-le-mul hy hy
-      ⊹ 2 ^ 100 * 30000 * 1000000 * (den * den) * (ru * ru) ⋆ mul-le-mul hk hk)
-      (search read depth 40 fits 20000) refl
+    five : rt * Ub ≤ 5 * (ru * Uj)
+    five = fivefold Ub Uj rt ru hr
+
+-- at the terminals of a generator of Ur rated volts, in steps of 1/40,960 of its rated current
+pub small-rated : (v Ub Uj re im den rt ru Ur kva : ℕ) → v ≤ 110 * Ub → (re + im) * (Uj * Uj) ≤ 2 ^ 38 * den → 9 ^ 8 * (rt * Ub) ≤ 11 ^ 8 * (ru * Uj) → 10 * Ur ≤ 11 * Uj → 10 ≤ kva
+    → v * v * 16777216 * (re * re + im * im) * (rt * Ur * (rt * Ur)) * 3 ≤ 2 ^ 100 * (30000 * (den * den) * (ru * (100 * kva) * (ru * (100 * kva))))
+small-rated v Ub Uj re im den rt ru Ur kva hv hy hr hu hk =
+    from-over (v ∷ Ub ∷ Uj ∷ re ∷ im ∷ den ∷ rt ∷ ru ∷ Ur ∷ kva ∷ []) 100 (lit< tt)
+    (300 * 16777216 * (re * re + im * im) * (rt * rt * (Ur * Ur)) ⋆ mul-le-mul hv hv
+    ⊹ 300 * 12100 * 16777216 * (re * re + im * im) * (Ur * Ur) ⋆ mul-le-mul five five
+    ⊹ 3 * 12100 * 25 * 16777216 * (re * re + im * im) * (ru * ru * (Uj * Uj)) ⋆ mul-le-mul hu hu
+    ⊹ 3 * 12100 * 25 * 121 * 16777216 * (ru * ru) ⋆ mul-le-mul hy hy
+    ⊹ 2 ^ 100 * 30000 * 1000000 * (den * den) * (ru * ru) ⋆ mul-le-mul hk hk)
+    (search read depth 40 fits 20000) refl
+  where
+    five : rt * Ub ≤ 5 * (ru * Uj)
+    five = fivefold Ub Uj rt ru hr
