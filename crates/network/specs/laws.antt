@@ -13,6 +13,7 @@ pub mod Reached
 pub mod ElementSizes
 pub mod AcceptedTree
 pub mod BusSums
+pub mod ShareFacts
 pub mod Bridge
 pub mod Claim
 pub mod Sentences

@@ -1,14 +1,14 @@
 -- What stands at each bus of an accepted network: the sum of its machines' admittances and of its converters' currents, exact and in f64.
 -- Assumes nothing.
 use Prim.Native.Nat.{ℕ, zero, suc, _+_, _*_, _^_, _≤_, _<_, zero-le}
-use mathlib.Core.Path.{_≡_, refl, sym, ap, subst}
+use mathlib.Core.Path.{_≡_, refl, sym, subst}
 use mathlib.Core.Bool.{Bool, true, false, cond, _&&_}
 use mathlib.Core.List.{List, [], _∷_}
 use native.Mathlib.Omega.{arith}
 use native.Mathlib.Nat.{le-refl, le-trans, mul-le-mul, mul-pos, mul-add}
 use lib.Dec.{eqb, lit<, lit≤}
 use lib.ListN.{length, getD}
-use borrow.Author.Tests.{eqb-true}
+use borrow.Author.Tests.{eqb-true, eq-eqb}
 use Rattle.algebra.specs.Reading.{from, read, _⊹_, _⋆_}
 use Rattle.enclosure.specs.Exact.{Point, nothing, sum}
 use Rattle.elements.specs.Impedance.{converter}
@@ -58,6 +58,19 @@ module _ {S : Type 0} (t : S → Bool) (y : S → Point) (d : S) where
       go : (b : Bool) → t s ≡ b → ((x : Point) → 0 < x .im → 0 < sumOf sum t y x l .im) → 0 < sumOf sum t y (cond b (sum x (y s)) x) l .im
       go true e f = f (sum x (y s)) (le-trans (mul-pos g (h 0 (omega arith) e)) (omega arith))
       go false e f = f x g
+
+  -- and one element with a reactive part is enough
+  reactive-by : (l : List S) → ((j : ℕ) → j < length l → t (getD l j d) ≡ true → 0 < y (getD l j d) .den) → (j : ℕ) → j < length l → t (getD l j d) ≡ true → 0 < y (getD l j d) .im
+      → (x : Point) → 0 < x .den → 0 < sumOf sum t y x l .im
+  reactive-by [] h j m e i x g = absurd (omega arith)
+  reactive-by (s ∷ l) h zero m e i x g =
+      subst (λ (b : Bool). 0 < sumOf sum t y (cond b (sum x (y s)) x) l .im) (sym e)
+      (reactive l (λ k n. h (suc k) (omega arith)) (sum x (y s)) (le-trans (mul-pos i g) (omega arith)))
+  reactive-by (s ∷ l) h (suc j) m e i x g = go (t s) refl (reactive-by l (λ k n. h (suc k) (omega arith)) j (omega arith) e i)
+    where
+      go : (b : Bool) → t s ≡ b → ((x : Point) → 0 < x .den → 0 < sumOf sum t y x l .im) → 0 < sumOf sum t y (cond b (sum x (y s)) x) l .im
+      go true q f = f (sum x (y s)) (mul-pos g (h 0 (omega arith) q))
+      go false q f = f x g
 
   -- no imaginary part, where none has one
   real : (l : List S) → ((s : S) → y s .im ≡ 0) → (x : Point) → x .im ≡ 0 → sumOf sum t y x l .im ≡ 0
@@ -140,22 +153,14 @@ module _ {n : Network} (r : Rebuilt n) where
   pub plain : Plain (gridOf n)
   plain = record { branch = λ i z l. branch-impedance r i z l; own = λ b l. own-admittance b }
 
-  -- the feeder at bus 0
+  -- where a machine stands there is a reactive part, by the feeder at bus 0 for one
+  pub own-reactive : (j : ℕ) → j < length (n .sources) → isMachine (sourceAt (n .sources) j) ≡ true → 0 < gridOf n .own (sourceAt (n .sources) j .bus) .im
+  own-reactive j l m =
+      reactive-by (machineAt (sourceAt (n .sources) j .bus)) (admittanceOf n) blankSource (n .sources) (λ k i t. inverse-proper _) j l (rw (m, eq-eqb (sourceAt (n .sources) j .bus) _ refl)) (machine-reactive r j l m)
+      nothing (lit< tt)
+
   pub fed : 0 < length (n .sources) → 0 < gridOf n .own 0 .im
-  fed h = go (n .sources) refl h
-    where
-      go : (l : List Source) → n .sources ≡ l → 0 < length l → 0 < sumOf sum (machineAt 0) (admittanceOf n) nothing l .im
-      go [] e h = absurd (omega arith)
-      go (p ∷ l) e h =
-          let z : 0 < length (n .sources) = rw e (omega arith) in
-          let q : sourceAt (n .sources) 0 ≡ p = ap (λ (s : List Source). getD s 0 blankSource) e in
-          let k : p .kind ≡ 1 = rw q at (first-feeder r 0 z refl .0) in
-          let b : p .bus ≡ 0 = rw q at (first-feeder r 0 z refl .1) in
-          let m : isMachine (sourceAt (n .sources) 0) ≡ true = rw (q, k) in
-          let y : 0 < admittanceOf n p .im = rw q at (machine-reactive r 0 z m) in
-          let t : machineAt 0 p ≡ true = rw (k, b) in
-          subst (λ (c : Bool). 0 < sumOf sum (machineAt 0) (admittanceOf n) (cond c (sum nothing (admittanceOf n p)) nothing) l .im) (sym t)
-          (reactive (machineAt 0) (admittanceOf n) blankSource l (λ j i t. inverse-proper _) (sum nothing (admittanceOf n p)) (omega arith))
+  fed h = let f = first-feeder r 0 h refl in subst (λ (b : ℕ). 0 < gridOf n .own b .im) (f .1) (own-reactive 0 h (rw (f .0)))
 
   -- ---- the converters at bus b
   module _ (b : ℕ) where
