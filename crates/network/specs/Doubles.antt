@@ -17,12 +17,15 @@ use Rattle.sweep.specs.declared.sweeps.Falls.{Falls}
 use Rattle.sweep.specs.Columns.{column}
 use Rattle.sweep.specs.Points.{numberAt, pointOf, pointsOf, columnGrid}
 use Rattle.sweep.specs.Sweep.{risesOf, fallsOf, seenOf}
+use Rattle.sweep.specs.declared.ways.Crossings.{Crossings}
+use Rattle.sweep.specs.Crossings.{factorAt, crossingsOf, reachOf}
 use Rattle.network.specs.declared.study.Bus.{Bus}
 use Rattle.network.specs.declared.study.Source.{Source}
 use Rattle.network.specs.declared.query.Amperes.{Amperes}
 use Rattle.network.specs.declared.columns.TreeColumns.{TreeColumns}
 use Rattle.network.specs.declared.columns.Standing.{Standing}
 use Rattle.network.specs.declared.board.Board.{Board}
+use Rattle.network.specs.declared.ways.Ways.{Ways}
 use Rattle.network.specs.RoundedSourceKinds.{admittanceBy, suppliedBy}
 use Rattle.network.specs.Network.{Network, busAt, parentRecord}
 use Rattle.network.specs.Grid.{aboveOf, belowOf, machineAt, converterAt}
@@ -104,6 +107,24 @@ seenAt n b = seenOf (boardBy n .up) (boardBy n .fall) b
 
 unfoldable pub carriedAt : Network → ℕ → Complex
 carriedAt n b = fromRoot doubles (treeGrid (n .buses)) b (boardBy n .gathered)
+
+-- ---- the ways from bus b: how a current divides over each branch, by both sweeps, and the products over the branches between b and each bus
+unfoldable pub crossingsBy : Network → Crossings
+crossingsBy n =
+    let tree = treeOf (n .buses) in
+    let rises = risesBy (n .tolerance) (n .buses) (standingOf (n .tolerance) (tree .volts) (n .sources) .own) in
+    crossingsOf (numberAt (tree .above)) (numberAt (tree .below)) (pointOf (branchPoints (n .tolerance) (n .buses)))
+    (pointOf (fallsBy (n .tolerance) (n .buses) rises .down)) (pointOf (rises .up)) (length (n .buses))
+
+unfoldable pub waysFrom : Network → ℕ → Ways
+waysFrom n b =
+    let crossings = crossingsBy n in
+    record {
+      volts = treeOf (n .buses) .volts;
+      reach =
+          reachOf (numberAt (treeOf (n .buses) .parents)) (factorAt (crossings .«divider_up»)) (factorAt (crossings .«divider_down»)) (factorAt (crossings .«ratio_up»))
+          (factorAt (crossings .«ratio_down»)) b (length (n .buses));
+    }
 
 -- the six whole numbers
 abbrev pub figuresBy : ℕ → ℕ → Complex → Complex → Figures

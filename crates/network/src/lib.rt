@@ -14,8 +14,10 @@ mod rows;
 mod source_grounds;
 mod source_kinds;
 pub mod study;
+pub mod ways;
 
 pub use contents::buses_of;
 pub use contents::is_closed;
 pub use contents::sources_of;
 pub use contents::tolerance_of;
+pub use source_kinds::machine_admittance;

@@ -95,7 +95,7 @@ pub(crate) fn fields_ok(p: Source) -> bool
 }
 
 // The admittance of a machine at a bus of these nominal volts.
-pub(crate) fn machine_admittance(tolerance: u32, volts: u32, p: Source) -> Complex
+pub fn machine_admittance(tolerance: u32, volts: u32, p: Source) -> Complex
     ensures { λ y. ⌜ y ≡ admittanceBy tolerance volts p ⌝ }
 {
     let kind = p.kind;
