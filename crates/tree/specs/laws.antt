@@ -18,4 +18,5 @@ pub mod CurrentErrors
 pub mod BusSums
 pub mod Shares
 pub mod Ratios
+pub mod Dividers
 pub mod Example
