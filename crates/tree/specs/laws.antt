@@ -19,4 +19,5 @@ pub mod BusSums
 pub mod Shares
 pub mod Ratios
 pub mod Dividers
+pub mod ShareBounds
 pub mod Example

@@ -1,6 +1,6 @@
 -- Laws of `SumAtMost` and `SumAtLeast`: bounds of each magnitude that are fractions give a bound of the sum; and how far apart two sums are.
 -- Assumes nothing.
-use Prim.Native.Nat.{ℕ, zero, suc, _+_, _*_, _≤_, _<_}
+use Prim.Native.Nat.{ℕ, zero, suc, _*_, _≤_, _<_}
 use mathlib.Core.Path.{refl}
 use mathlib.Core.List.{[], _∷_}
 use native.Mathlib.Omega.{arith}

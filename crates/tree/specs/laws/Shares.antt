@@ -15,7 +15,7 @@ use Rattle.algebra.specs.Reading.{identity, poly, read}
 use Rattle.enclosure.specs.Exact.{Point, Ops, isNothing, exact, sum, times, turned, inverse, norm}
 use Rattle.enclosure.specs.Fraction.{Fraction, whole, product, quotient, sizeSquare}
 use Rattle.enclosure.specs.laws.Nearness.{norm-pos, inverse-proper}
-use Rattle.tree.specs.Grid.{joined, neighbour, Grid, parentOf, Treelike, timesSquare, through, seen}
+use Rattle.tree.specs.Grid.{joined, neighbour, Grid, parentOf, Treelike, timesSquare, seen}
 use Rattle.tree.specs.Shares.{onwardBy, onward, overBranches, currentSquare, arriving, partSquare, ratio, ratios, shareSquare, terminalSquare}
 use Rattle.tree.specs.Ways.{betweenBy, between}
 use Rattle.tree.specs.laws.Equations.{equal, equal-over, _⊕_, _⊛_}
