@@ -12,7 +12,7 @@ use native.Mathlib.Nat.{mul-pos, mul-le-mul, mul-comm, mul-assoc}
 use lib.Dec.{ltb, eqb}
 use borrow.Author.Tests.{ltb-true, ltb-false, lt-ltb, le-ltb, eqb-true, eqb-false, eq-eqb, ne-eqb}
 use Rattle.algebra.specs.Reading.{identity, poly, read}
-use Rattle.enclosure.specs.Exact.{Point, Ops, isNothing, exact, sum, times, turned, inverse, norm}
+use Rattle.enclosure.specs.Exact.{Point, isNothing, exact, sum, times, turned, inverse, norm}
 use Rattle.enclosure.specs.Fraction.{Fraction, whole, product, quotient, sizeSquare}
 use Rattle.enclosure.specs.laws.Nearness.{norm-pos, inverse-proper}
 use Rattle.tree.specs.Grid.{joined, neighbour, Grid, parentOf, Treelike, timesSquare, seen}
@@ -35,24 +35,17 @@ Some x = (0 < x .top) × (0 < x .under)
 abbrev pub fourth : Fraction → Fraction
 fourth x = product (product x x) (product x x)
 
--- ---- the exact dividers, each by the branch between b and its neighbour c and by the impedance behind it, both on the side of the bus
--- that names the branch: z for each bus, s what is seen
-abbrev pub crossingBy : {A : Type 0} → (ℕ → A) → ℕ → ℕ → A
-crossingBy z b c = cond (ltb c b) (z b) (z c)
-
-abbrev pub behindBy : {A : Type 0} → Ops A → Grid → (ℕ → ℕ → A) → ℕ → ℕ → A
-behindBy o G s b c = cond (ltb c b) (timesSquare o (G .branch b .below) (G .branch b .above) (o .inverse (s c b))) (o .inverse (s c b))
-
--- (|x|/|z + x|)², and 1 for x nothing
+-- ---- the exact dividers: (|x|/|z + x|)², and 1 for x nothing
 unfoldable pub dividerOf : Point → Point → Fraction
 dividerOf z x = cond (isNothing x) (whole 1) (quotient (sizeSquare x) (sizeSquare (sum z x)))
 
+-- z is the branch between b and its neighbour c, x the impedance behind it, both on the side of the bus that names the branch
 module _ (G : Grid) where
   abbrev pub crossing : ℕ → ℕ → Point
-  crossing = crossingBy (λ i. G .branch i .z)
+  crossing b c = cond (ltb c b) (G .branch b .z) (G .branch c .z)
 
   abbrev pub behind : ℕ → ℕ → Point
-  behind = behindBy exact G (seen G)
+  behind b c = cond (ltb c b) (timesSquare exact (G .branch b .below) (G .branch b .above) (inverse (seen G c b))) (inverse (seen G c b))
 
   abbrev pub divider : ℕ → ℕ → Fraction
   divider b c = dividerOf (crossing b c) (behind b c)
