@@ -16,5 +16,9 @@ pub mod EachBusOnce
 pub mod ConvertersByRoot
 pub mod CurrentErrors
 pub mod BusSums
+pub mod Shares
+pub mod Ratios
+pub mod Dividers
+pub mod ShareBounds
 pub mod Example
 pub mod Ways
