@@ -14,3 +14,6 @@ pub mod ChainErrors
 pub mod WholeBounds
 pub mod RootGuess
 pub mod WholeF64
+pub mod Scalar
+pub mod RootBounds
+pub mod Magnitudes

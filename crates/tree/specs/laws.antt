@@ -16,4 +16,6 @@ pub mod EachBusOnce
 pub mod ConvertersByRoot
 pub mod CurrentErrors
 pub mod BusSums
+pub mod Shares
+pub mod Ratios
 pub mod Example

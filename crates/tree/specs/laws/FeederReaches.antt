@@ -34,23 +34,23 @@ over-proper joins f x (suc m) z h = over-proper joins f _ m (go (joins m)) h
     go false = z
 
 -- ---- a point with an imaginary part
-record Fed (x : Point) : Type 0 where
+pub record Fed (x : Point) : Type 0 where
   pub proper : 0 < x .den
   pub reactive : 0 < x .im
 
 fed-left : (x y : Point) → Fed x → 0 < y .den → Fed (sum x y)
 fed-left x y h z = record { proper = mul-pos (h .proper) z; reactive = from (x .im ∷ x .den ∷ y .im ∷ y .den ∷ []) (mul-pos (h .reactive) z) (search read depth 40 fits 20000) refl }
 
-fed-right : (x y : Point) → 0 < x .den → Fed y → Fed (sum x y)
+pub fed-right : (x y : Point) → 0 < x .den → Fed y → Fed (sum x y)
 fed-right x y z h = record { proper = mul-pos z (h .proper); reactive = from (x .im ∷ x .den ∷ y .im ∷ y .den ∷ []) (mul-pos (h .reactive) z) (search read depth 40 fits 20000) refl }
 
-fed-times : (p q : ℕ) (x : Point) → 0 < p → 0 < q → Fed x → Fed (times p q x)
+pub fed-times : (p q : ℕ) (x : Point) → 0 < p → 0 < q → Fed x → Fed (times p q x)
 fed-times p q x hp hq h = record { proper = mul-pos (h .proper) hq; reactive = mul-pos (h .reactive) hp }
 
-fed-some : (x : Point) → Fed x → isNothing x ≡ true → ⊥
+pub fed-some : (x : Point) → Fed x → isNothing x ≡ true → ⊥
 fed-some x h e = omega (arith, eqb-true (x .re + x .im) 0 e, h .reactive)
 
-fed-inverse : (x : Point) → Fed x → Fed (inverse x)
+pub fed-inverse : (x : Point) → Fed x → Fed (inverse x)
 unfolding inverse
 fed-inverse x h = go (isNothing x) refl
   where
@@ -58,7 +58,7 @@ fed-inverse x h = go (isNothing x) refl
     go true e = absurd (fed-some x h e)
     go false e = record { proper = norm-pos (x .re) (x .im) (eqb-false (x .re + x .im) 0 e); reactive = mul-pos (h .reactive) (h .proper) }
 
-over-start : (joins : ℕ → Bool) (f : ℕ → Point) (x : Point) (m : ℕ) → Fed x → ((i : ℕ) → 0 < f i .den) → Fed (sumOver sum joins f x m)
+pub over-start : (joins : ℕ → Bool) (f : ℕ → Point) (x : Point) (m : ℕ) → Fed x → ((i : ℕ) → 0 < f i .den) → Fed (sumOver sum joins f x m)
 over-start joins f x zero g h = g
 over-start joins f x (suc m) g h = over-start joins f _ m (go (joins m)) h
   where
@@ -67,7 +67,7 @@ over-start joins f x (suc m) g h = over-start joins f _ m (go (joins m)) h
     go false = g
 
 -- one that is fed feeds the sum
-over-fed : (joins : ℕ → Bool) (f : ℕ → Point) (x : Point) (u m : ℕ) → 0 < x .den → ((i : ℕ) → 0 < f i .den) → joins u ≡ true → Fed (f u) → u < m → Fed (sumOver sum joins f x m)
+pub over-fed : (joins : ℕ → Bool) (f : ℕ → Point) (x : Point) (u m : ℕ) → 0 < x .den → ((i : ℕ) → 0 < f i .den) → joins u ≡ true → Fed (f u) → u < m → Fed (sumOver sum joins f x m)
 over-fed joins f x u zero z h j g l = absurd (omega arith)
 over-fed joins f x u (suc m) z h j g l = go (joins m) (eqb u m) refl refl (λ y d k. over-fed joins f y u m d h j g k)
   where
@@ -78,7 +78,7 @@ over-fed joins f x u (suc m) z h j g l = go (joins m) (eqb u m) refl refl (λ y 
     go false false e q r = r x z (omega (arith, eqb-false u m q))
 
 module _ (G : Grid) (tree : Treelike G) (proper : Proper G) where
-  fed-through : (b i : ℕ) (y : Point) → b < G .count → i < G .count → joined (parentOf G) b i ≡ true → Fed y → Fed (through exact (λ j. G .branch j .z) G b i y)
+  pub fed-through : (b i : ℕ) (y : Point) → b < G .count → i < G .count → joined (parentOf G) b i ≡ true → Fed y → Fed (through exact (λ j. G .branch j .z) G b i y)
   fed-through b i y lb li e h =
       through-cases exact (λ j. G .branch j .z) G b i y Fed
       (λ p. absurd (fed-some y h p))
