@@ -1,7 +1,7 @@
 -- The factor μ: the constant table of 404 numbers is document 02's, for the four delays together, by one test that is computed over
 -- the whole table; by another one no entry is above the one before it nor more than 1.7 % below it. So the factor that is calculated
 -- from bounds of q is never below the exact one, and at most 1.7 % above it. Assumes nothing.
-use Prim.Native.Nat.{ℕ, zero, suc, _+_, _-_, _*_, _/_, _%_, min, _≤_, _<_}
+use Prim.Native.Nat.{ℕ, zero, suc, _+_, _*_, _/_, _%_, min, _≤_, _<_}
 use mathlib.Core.Path.{_≡_, refl, sym, ap, ap₂, _∙_, subst, subst₂}
 use mathlib.Core.Bool.{Bool, true, false, not, cond, _&&_}
 use mathlib.Core.List.{List, [], _∷_}
@@ -99,7 +99,7 @@ mu-most delay i = on (ltb i 20) (10 * formulaOf delay .base + ceiling (10 * form
     on true x = le-refl 1000
     on false x = omega arith
 
--- and 1 up to q = 2
+-- and 1 in the last entry below q = 2
 pub mu-first : (delay : ℕ) → muOf delay 19 ≡ 1000
 unfolding muOf
 mu-first delay = refl
