@@ -1,12 +1,13 @@
--- The elements as they are calculated in f64, a definition for each function of src/: impedances, the step of the peak table, current
--- and peaks. How near each is to the exact one is proved in laws/ImpedanceErrors, laws/Place and laws/BoundsAndPeaks.
+-- The elements as they are calculated in f64, a definition for each function of src/: impedances, the step of the peak table, current,
+-- peaks and μ. How near each is to the exact one is proved in laws/ImpedanceErrors, laws/Place, laws/BoundsAndPeaks and laws/BreakingFactor.
 use Prim.Native.Nat.{ℕ, _+_, _*_, _-_, _/_, _%_, min}
 use mathlib.Core.Bool.{cond, _&&_, Bool, false}
-use lib.Dec.{leb, ltb}
+use lib.Dec.{leb, ltb, eqb}
 use lib.Ieee.{Float, binary64, ofBits, add, mul, le}
 use Rattle.enclosure.specs.declared.Complex.{Complex}
-use Rattle.enclosure.specs.Doubles.{none, wholePoint, scaled, climb, upperOf}
+use Rattle.enclosure.specs.Doubles.{none, wholePoint, scaled, climb, upperOf, underRoot}
 use Rattle.elements.specs.Factors.{factorC, sineOf, uxOf, splitOf, peakFactor}
+use Rattle.elements.specs.BreakingFactor.{muOf}
 use Rattle.enclosure.specs.Exact.{ofNat}
 
 unfoldable pub lineBy : ℕ → ℕ → ℕ → ℕ → Complex
@@ -69,3 +70,11 @@ machinePeakBy c Un y = upperOf 2 3 (scaled (fineFactor (placeOf y)) 16000 (curre
 -- √2 times the converters' part, rounded up
 unfoldable pub converterPeakBy : Complex → ℕ
 converterPeakBy x = upperOf 2 1 x
+
+-- where the 101 entries of a delay begin in the table of the four
+unfoldable pub firstOf : ℕ → ℕ
+firstOf delay = cond (eqb delay 20) 0 (cond (eqb delay 50) 101 (cond (eqb delay 100) 202 303))
+
+-- μ in thousandths, from r steps of 1/40,960 of q: 1 while what q is at least is not above 2, then by its tenths
+unfoldable pub muBy : ℕ → ℕ → ℕ
+muBy delay r = cond (leb (underRoot r) 81920) 1000 (muOf delay (min (underRoot r / 4096) 100))

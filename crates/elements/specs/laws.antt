@@ -2,6 +2,7 @@ pub mod Factors
 pub mod Exponential
 pub mod EachBelow
 pub mod PeakTable
+pub mod BreakingFactor
 pub mod FineTable
 pub mod Peak
 pub mod FactorSizes

@@ -17,3 +17,4 @@ pub mod WholeF64
 pub mod Scalar
 pub mod RootBounds
 pub mod Magnitudes
+pub mod FigureSums

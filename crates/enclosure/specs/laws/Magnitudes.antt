@@ -10,7 +10,7 @@ use Rattle.enclosure.specs.laws.Root.{root-le}
 use Rattle.enclosure.specs.Fraction.{Fraction, Most, plus, product, total, SumAtMost, SumAtLeast}
 
 -- ---- `Most` with sums, products and squares
-most-trans : (x y z : Fraction) → 0 < y .under → Most x y → Most y z → Most x z
+pub most-trans : (x y z : Fraction) → 0 < y .under → Most x y → Most y z → Most x z
 most-trans x y z p h k =
     from-over (x .top ∷ x .under ∷ y .top ∷ y .under ∷ z .top ∷ z .under ∷ []) (y .under) p (z .under ⋆ h ⊹ x .under ⋆ k) (search read depth 40 fits 20000) refl
 
