@@ -2,7 +2,7 @@
 ghost use mathlib.Core.Path.{_≡_};
 ghost use mathlib.Core.Bool.{true};
 ghost use Rattle.enclosure.specs.Exact.{rootOf, rootUp};
-ghost use Rattle.enclosure.specs.Doubles.{rootBelow};
+ghost use Rattle.enclosure.specs.Doubles.{rootBelow, rootFine, underRoot};
 
 // A number near the root of m: from m with its exponent halved, by three steps of Newton's. Nothing rests on how near it is: what is
 // returned is tried first. 0 for what has no root of use here.
@@ -123,4 +123,21 @@ fn root_by_bits(m: f64) -> u64
         }
     }
     low
+}
+
+// One root for both bounds of √x, with a margin that covers every rounding: √x is at most one more (specs/laws/RootBounds.antt).
+pub fn root_fine(x: f64) -> u64
+    ensures { λ r. ⌜ r ≡ rootFine x ⌝ }
+{
+    let over: u32 = 65537;
+    let under: u32 = 65536;
+    root_below(x * (over as f64 / under as f64))
+}
+
+// A whole number not above √x, by that root.
+pub fn under_root(r: u64) -> u64
+    ensures { λ u. ⌜ u ≡ underRoot r ⌝ }
+{
+    let rest = r - r / 16384;
+    if 0 < rest { rest - 1 } else { 0 }
 }

@@ -1,0 +1,61 @@
+-- Document 02, order 3, of a network: each machine's share of the fault current at a bus, its weight μ in the breaking current, and the
+-- grounds on which the call is refused.
+use Prim.Native.Nat.{ℕ, _*_}
+use mathlib.Core.Bool.{cond}
+use mathlib.Core.List.{List, [], _∷_, _++_}
+use lib.Dec.{leb, ltb, eqb}
+use lib.ListN.{length, drop}
+use lib.Ieee.{Float}
+use Rattle.enclosure.specs.Exact.{ofNat}
+use Rattle.enclosure.specs.Fraction.{Fraction, whole, quotient}
+use Rattle.elements.specs.BreakingFactor.{delayOk, muAt}
+use Rattle.tree.specs.Shares.{shareSquare, terminalSquare}
+use Rattle.network.specs.declared.study.Source.{Source}
+use Rattle.network.specs.SourceKinds.{isMachine, isGenerator}
+use Rattle.network.specs.Network.{Network, sourceAt}
+use Rattle.network.specs.Grounds.{Ground, on, first}
+use Rattle.network.specs.Grid.{admittanceOf, gridOf, convertersAt}
+use Rattle.network.specs.Demand.{driving}
+
+-- "31 when the delay is another number, tried after 15; then 30 when the table is shorter than two numbers a source", after 22; by the
+-- length of the table
+abbrev pub breakingGrounds : Network → ℕ → ℕ → ℕ → List Ground
+breakingGrounds n b delay room = on (n .closed) 22 ∷ on (ltb b (length (n .buses))) 15 ∷ on (delayOk delay) 31 ∷ on (leb (2 * length (n .sources)) room) 30 ∷ []
+
+unfoldable pub breakingNumber : Network → ℕ → ℕ → ℕ → ℕ
+breakingNumber n b delay room = first (breakingGrounds n b delay room)
+
+-- numbers laid at the start of a table; those beyond are kept
+abbrev pub laidOver : List Float → List Float → List Float
+laidOver numbers table = numbers ++ drop (length numbers) table
+
+-- "A refusal gives the figure 0 and an untouched table": by the number of the call, what an accepted one gives, and the table lent
+unfoldable pub figureAfter : ℕ → Float → Float
+figureAfter number figure = cond (eqb number 0) figure (ofNat 0)
+
+unfoldable pub tableAfter : ℕ → List Float → List Float → List Float
+tableAfter number numbers table = cond (eqb number 0) (laidOver numbers table) table
+
+-- the square of the share that the source at place j has of the fault current at b; a converter is no machine and has none
+abbrev pub shareAt : Network → ℕ → ℕ → Fraction
+shareAt n b j =
+    let p = sourceAt (n .sources) j in
+    cond (isMachine p) (shareSquare (gridOf n) (driving n b) (admittanceOf n p) b (p .bus)) (whole 0)
+
+-- the square of a generator's rated current, 1,000·kVA/(√3·rated volts)
+abbrev pub ratedCurrentSquare : Source → Fraction
+ratedCurrentSquare p = record { top = 1000000 * (p .f2 * p .f2); under = 3 * (p .f1 * p .f1) }
+
+-- "q the share over the generator's rated current, both at its terminals", squared
+abbrev pub qSquareAt : Network → ℕ → ℕ → Fraction
+qSquareAt n b j =
+    let p = sourceAt (n .sources) j in
+    quotient (terminalSquare (gridOf n) (driving n b) (admittanceOf n p) b (p .bus)) (ratedCurrentSquare p)
+
+-- μ of a generator; "Feeder and motors count with μ = 1"
+abbrev pub weightAt : Network → ℕ → ℕ → ℕ → Fraction
+weightAt n b delay j = record { top = cond (isGenerator (sourceAt (n .sources) j)) (muAt delay (qSquareAt n b j)) 1000; under = 1000 }
+
+-- "converters in full": document 01's converters' part
+abbrev pub convertersPart : Network → ℕ → Fraction
+convertersPart n b = record { top = convertersAt n b .re; under = convertersAt n b .den }

@@ -1,0 +1,1 @@
+-- Tables of two numbers a source, and the sum of steps, as a loop makes them. Assumes nothing.
