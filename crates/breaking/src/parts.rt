@@ -1,6 +1,6 @@
 // What one source adds to the breaking current of a bus, in whole steps of 1/4,096 A, and a generator's two numbers of the table.
 ghost use mathlib.Core.Path.{_≡_};
-ghost use Prim.Native.Nat.{_*_, _^_, _≤_};
+ghost use Prim.Native.Nat.{_*_, _^_, _≤_, _<_};
 ghost use Rattle.elements.specs.Factors.{factorC};
 ghost use Rattle.tree.specs.Ways.{driveBy, strengthBy, shareSteps, ratedSteps};
 ghost use Rattle.breaking.specs.Doubles.{weighed, amperesUp, generatorPart, partBy};
@@ -46,7 +46,8 @@ pub(crate) fn strength(drive: f64, y: Complex) -> f64
 
 // A share in steps, by the machine's strength, and the rated ratio and the divider of the way to it.
 fn share_steps(k: f64, ratio: f64, divider: f64) -> u64
-    ensures { λ r. ⌜ r ≡ shareSteps k ratio divider ⌝ }
+    ensures steps { λ r. ⌜ r ≡ shareSteps k ratio divider ⌝ }
+    ensures few { λ r. ⌜ r < 2 ^ 53 ⌝ }
 {
     root_fine(k * (ratio * ratio * (ratio * ratio)) * divider)
 }

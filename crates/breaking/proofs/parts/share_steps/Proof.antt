@@ -1,0 +1,12 @@
+use borrow.Author.Needs.{needs}
+use Rattle.breaking.proofs.parts.share_steps.Statement.{statement}
+use Rattle.breaking.proofs.parts.share_steps.Tie as tie
+
+root-fine-requires : tie.Need-root-fine-requires
+root-fine-requires c κs = search needs
+
+returns : tie.Need-returns
+returns c = ?
+
+pub share-steps-spec : {M : Type 1} → statement M
+share-steps-spec = tie.close (tie.spec root-fine-requires returns)
