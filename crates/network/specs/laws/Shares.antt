@@ -15,7 +15,7 @@ use Rattle.enclosure.specs.laws.RootBounds.{RootHolds}
 use Rattle.tree.specs.Limits.{maxBuses, coveredBuses, ownUnits}
 use Rattle.tree.specs.Grid.{parentOf, timesSquare}
 use Rattle.tree.specs.Shares.{ratios, shareSquare}
-use Rattle.tree.specs.Ways.{dividerBy, overWay, dividerUp, dividerDown, ratioUp, ratioDown, dividersBy, ratiosBy, driveBy, strengthBy, shareSteps, ratedSteps}
+use Rattle.tree.specs.Ways.{dividerBy, dividerUp, dividerDown, ratioUp, ratioDown, dividersBy, ratiosBy, driveBy, strengthBy, shareSteps, ratedSteps}
 use Rattle.tree.specs.laws.Accuracy.{Accurate, accurate-more}
 use Rattle.tree.specs.laws.TreeBounds.{sound-proper}
 use Rattle.tree.specs.laws.Ways.{over-way-same}
@@ -23,12 +23,12 @@ use Rattle.tree.specs.laws.Shares.{share-proper}
 use Rattle.tree.specs.laws.Ratios.{Crossed, Levelled, levelled-more, ratios-level}
 use Rattle.tree.specs.laws.Dividers.{seenAbove, seenBelow}
 use Rattle.tree.specs.laws.ShareBounds.{factor, ratedFactor, share-bounds, share-few, ratedSquare, rated-proper, terminal-bounds}
-use Rattle.sweep.specs.Points.{numberAt, pointOf}
+use Rattle.sweep.specs.Points.{numberAt}
 use Rattle.sweep.specs.Crossings.{factorAt, columnTo, crossingAt, crossingsOf, reachOf}
 use Rattle.sweep.specs.laws.Columns.{getD-column}
 use Rattle.network.specs.declared.study.Bus.{Bus}
 use Rattle.network.specs.declared.study.Source.{Source}
-use Rattle.network.specs.Network.{Network, maxTransformers, busAt, sourceAt, ifTransformer, transformersOf}
+use Rattle.network.specs.Network.{Network, busAt, sourceAt, ifTransformer, transformersOf}
 use Rattle.network.specs.SourceKinds.{isMachine, isGenerator}
 use Rattle.network.specs.Grid.{admittanceOf, gridOf}
 use Rattle.network.specs.Demand.{driving}
