@@ -23,7 +23,7 @@ under-root-requires : tie.Need-under-root-requires
 under-root-requires c κs = search needs
 
 returns : tie.Need-returns
-returns c = let s = c .before .before in one (s .args .delay) (s .args .steps) _ (c .before .under-root .ensures) (c .if1 .taken)
+returns c = let s = c .before .before in one (s .args .delay) (s .args .steps) _ (c .before .under-root .ensures) (omega arith)
 
 cast-breaking-factor : tie.Need-cast-breaking-factor
 cast-breaking-factor c = search needs
