@@ -1,4 +1,5 @@
 // Document 02's factor μ of a generator, equal to its definition for every argument.
+use enclosure::roots::under_root;
 ghost use mathlib.Core.Path.{_≡_};
 ghost use Prim.Native.Nat.{min};
 ghost use Rattle.elements.specs.BreakingFactor.{muOf};
@@ -29,15 +30,15 @@ pub fn breaking_factor(delay: u32, i: u32) -> u32
     }
 }
 
-// μ in thousandths from q as it is calculated, in steps of 1/40,960: q is at least that number less one part in 2 ^ 14 and 1.
+// μ in thousandths from q as it is calculated, in steps of 1/40,960, by what q is at least.
 pub fn factor_of(delay: u32, steps: u64) -> u32
     ensures { λ r. ⌜ r ≡ muBy delay steps ⌝ }
 {
-    let rest = steps - steps / 16_384;
-    if rest <= 81_921 {
+    let least = under_root(steps);
+    if least <= 81_920 {
         return 1_000;
     }
-    let i = (rest - 1) / 4_096;
+    let i = least / 4_096;
     if i < 100 {
         breaking_factor(delay, i as u32)
     } else {

@@ -15,6 +15,7 @@ pub mod AcceptedTree
 pub mod BusSums
 pub mod ShareFacts
 pub mod Bridge
+pub mod Shares
 pub mod Claim
 pub mod Sentences
 pub mod Alike

@@ -17,15 +17,16 @@ use Rattle.tree.specs.laws.Sums.{sum-same}
 use Rattle.tree.specs.laws.TreeBounds.{Sound}
 use Rattle.tree.specs.Converters.{carriedBy}
 use Rattle.tree.specs.laws.Converters.{carried-same}
+use Rattle.tree.specs.laws.Dividers.{seenAbove, seenBelow}
 use Rattle.sweep.specs.Columns.{column}
 use Rattle.sweep.specs.Points.{numberAt, pointOf}
 use Rattle.sweep.specs.laws.Columns.{Sized, number-column, getD-column, point-column, points-sized}
-use Rattle.sweep.specs.laws.Swept.{all-walk}
+use Rattle.sweep.specs.laws.Swept.{all-walk, up-walk, down-walk}
 use Rattle.network.specs.declared.study.Bus.{Bus}
 use Rattle.network.specs.Network.{Network, blank, busAt}
 use Rattle.network.specs.Grid.{gridOf, aboveOf, belowOf, machineAt}
 use Rattle.network.specs.RoundedSourceKinds.{admittanceBy}
-use Rattle.network.specs.Doubles.{ownBy, convertersBy, branchesBy, treeOf, treeGrid, branchPoints, standingOf, boardOf, seenAt, carriedAt}
+use Rattle.network.specs.Doubles.{ownBy, convertersBy, branchesBy, treeOf, treeGrid, branchPoints, standingOf, risesBy, fallsBy, boardOf, seenAt, carriedAt}
 
 -- a column of numbers at any place, where the blank record has 0
 pub number-all : (f : Bus → ℕ) (l : List Bus) → f blank ≡ 0 → length l ≤ maxBuses → (i : ℕ) → numberAt (column (λ j. f (busAt l j))) i ≡ f (busAt l i)
@@ -37,7 +38,7 @@ number-all f l e m i = go (ltb i maxBuses) refl
 
 module _ (n : Network) (few : length (n .buses) ≤ maxBuses) where
   -- ---- the columns
-  shaped : Shaped (treeGrid (n .buses)) (gridOf n)
+  pub shaped : Shaped (treeGrid (n .buses)) (gridOf n)
   unfolding treeOf
   shaped = record {
     count = refl;
@@ -46,7 +47,7 @@ module _ (n : Network) (few : length (n .buses) ≤ maxBuses) where
     below = λ i z l. number-column (λ j. belowOf (busAt (n .buses) j)) i (omega arith);
   }
 
-  branch-column : (i : ℕ) → i < length (n .buses) → pointOf (branchPoints (n .tolerance) (n .buses)) i ≡ branchesBy n i
+  pub branch-column : (i : ℕ) → i < length (n .buses) → pointOf (branchPoints (n .tolerance) (n .buses)) i ≡ branchesBy n i
   unfolding branchPoints
   branch-column i l = point-column (branchesBy n) i (omega arith)
 
@@ -72,13 +73,38 @@ module _ (n : Network) (few : length (n .buses) ≤ maxBuses) where
     shallow : (i : ℕ) → i < length (n .buses) → depth (parentOf (treeGrid (n .buses))) i ≤ maxBranches
     shallow i l = rw (depth-same (parentOf (treeGrid (n .buses))) (parentOf (gridOf n)) (length (n .buses)) (shaped .parent) i l) (sound .shallow i l)
 
+    -- the walk over the columns is the walk over the tree
+    same-walk : (b w : ℕ) → b < length (n .buses)
+        → seenBy doubles (pointOf (branchPoints (n .tolerance) (n .buses))) (pointOf (standingOf (n .tolerance) (treeOf (n .buses) .volts) (n .sources) .own)) (treeGrid (n .buses)) walkSteps b w
+        ≡ seenBy doubles (branchesBy n) (ownBy n) (gridOf n) walkSteps b w
+    same-walk b w l =
+        seen-same doubles (pointOf (branchPoints (n .tolerance) (n .buses))) (branchesBy n) (pointOf (standingOf (n .tolerance) (treeOf (n .buses) .volts) (n .sources) .own)) (ownBy n) (treeGrid (n .buses)) (gridOf n) shaped
+        (λ i z m. branch-column i m) (λ c m. own-column c m) walkSteps b w l
+
     -- WHAT THE SWEEPS SEE AT A BUS IS WHAT THE WALK SEES THERE
     pub seen-walk : (b : ℕ) → b < length (n .buses) → seenAt n b ≡ seenBy doubles (branchesBy n) (ownBy n) (gridOf n) walkSteps b b
     unfolding seenAt boardOf
     seen-walk b l =
         all-walk (pointOf (branchPoints (n .tolerance) (n .buses))) (treeGrid (n .buses)) (standingOf (n .tolerance) (treeOf (n .buses) .volts) (n .sources) .own) few own-sized falling shallow b l
-        ∙ seen-same doubles (pointOf (branchPoints (n .tolerance) (n .buses))) (branchesBy n) (pointOf (standingOf (n .tolerance) (treeOf (n .buses) .volts) (n .sources) .own)) (ownBy n) (treeGrid (n .buses)) (gridOf n) shaped
-        (λ i z m. branch-column i m) (λ c m. own-column c m) walkSteps b b l
+        ∙ same-walk b b l
+
+    -- and what they leave on either side of a branch is what it sees at the parent without the bus, and at the bus without its parent
+    pub above-walk : (i : ℕ) → 0 < i → i < length (n .buses)
+        → pointOf (fallsBy (n .tolerance) (n .buses) (risesBy (n .tolerance) (n .buses) (standingOf (n .tolerance) (treeOf (n .buses) .volts) (n .sources) .own)) .down) i
+        ≡ seenAbove (branchesBy n) (ownBy n) (gridOf n) i
+    above-walk i z l =
+        let p = sound .tree i z l in
+        down-walk (pointOf (branchPoints (n .tolerance) (n .buses))) (treeGrid (n .buses)) (standingOf (n .tolerance) (treeOf (n .buses) .volts) (n .sources) .own) few own-sized falling shallow i z l
+        ∙ ap (λ (b : ℕ). seenBy doubles (pointOf (branchPoints (n .tolerance) (n .buses))) (pointOf (standingOf (n .tolerance) (treeOf (n .buses) .volts) (n .sources) .own)) (treeGrid (n .buses)) walkSteps b i) (shaped .parent i l)
+        ∙ same-walk (parentOf (gridOf n) i) i (omega arith)
+
+    pub below-walk : (i : ℕ) → 0 < i → i < length (n .buses)
+        → pointOf (risesBy (n .tolerance) (n .buses) (standingOf (n .tolerance) (treeOf (n .buses) .volts) (n .sources) .own) .up) i
+        ≡ seenBelow (branchesBy n) (ownBy n) (gridOf n) i
+    below-walk i z l =
+        up-walk (pointOf (branchPoints (n .tolerance) (n .buses))) (treeGrid (n .buses)) (standingOf (n .tolerance) (treeOf (n .buses) .volts) (n .sources) .own) few own-sized falling shallow i z l
+        ∙ ap (λ (b : ℕ). seenBy doubles (pointOf (branchPoints (n .tolerance) (n .buses))) (pointOf (standingOf (n .tolerance) (treeOf (n .buses) .volts) (n .sources) .own)) (treeGrid (n .buses)) walkSteps i b) (shaped .parent i l)
+        ∙ same-walk i (parentOf (gridOf n) i) l
 
   -- and the converters' part over the columns is that over the tree
   pub carried-tree : (b : ℕ) → b < length (n .buses) → carriedAt n b ≡ carriedBy doubles (convertersBy n) (gridOf n) b

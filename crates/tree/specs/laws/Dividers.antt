@@ -1,7 +1,7 @@
 -- How a current divides over a way: the product of the dividers in f64 is near the exact one, or both are too faint to matter.
 -- Assumes nothing.
 use Prim.Native.Nat.{ℕ, zero, suc, _+_, _*_, _^_, _≤_, _<_}
-use mathlib.Core.Path.{_≡_, refl, ap₂}
+use mathlib.Core.Path.{_≡_, refl}
 use mathlib.Core.Bool.{Bool, true, false, cond}
 use mathlib.Core.List.{[], _∷_}
 use mathlib.Core.Logic.{inl, inr, ⊎-elim}
@@ -9,7 +9,7 @@ use native.Mathlib.Omega.{arith}
 use native.Mathlib.Nat.{le-refl, le-trans, mul-le-mul, mul-pos, mul-comm}
 use lib.Dec.{ltb, lit≤}
 use borrow.Author.Tests.{eqb-false, ne-eqb}
-use lib.Ieee.{Float, binary64, div}
+use lib.Ieee.{binary64, div}
 use Rattle.algebra.specs.Polynomial.{two-sq}
 use Rattle.algebra.specs.Reading.{from, from-over, read, _⊹_, _⋆_}
 use Rattle.enclosure.specs.Exact.{Point, nothing, isNothing, exact, sum, times, inverse, norm}
@@ -24,7 +24,7 @@ use Rattle.enclosure.specs.laws.F64Range.{Good, Factor, f64-rules, near-size}
 use Rattle.enclosure.specs.Fraction.{whole, product, quotient, sizeSquare}
 use Rattle.enclosure.specs.laws.Scalar.{grain, About, about-square, about-div, about-unity, Reached, reached-more, reached-start, reached-step}
 use Rattle.tree.specs.Limits.{walkSteps, wayBranches, coveredBuses, mostUnits, seenUnits}
-use Rattle.tree.specs.Grid.{joined, Grid, parentOf, Treelike, timesSquare, seenBy, seen}
+use Rattle.tree.specs.Grid.{joined, Grid, parentOf, timesSquare, seenBy, seen}
 use Rattle.tree.specs.Ways.{overWay, dividerBy, dividerUp, dividerDown, dividersBy}
 use Rattle.tree.specs.laws.Walk.{to-parent, to-child}
 use Rattle.tree.specs.laws.Toward.{depth}
@@ -40,26 +40,6 @@ seenAbove z own G i = seenBy doubles z own G walkSteps (parentOf G i) i
 
 abbrev pub seenBelow : (ℕ → Complex) → (ℕ → Complex) → Grid → ℕ → Complex
 seenBelow z own G i = seenBy doubles z own G walkSteps i (parentOf G i)
-
--- ---- a product over a way asks nothing of a factor but its value at the buses of the tree
-pub way-same : (p : ℕ → ℕ) (n : ℕ) → ((i : ℕ) → 0 < i → i < n → p i < i) → (up up′ down down′ : ℕ → Float) (least : Float)
-    → ((i : ℕ) → 0 < i → i < n → up i ≡ up′ i) → ((i : ℕ) → 0 < i → i < n → down i ≡ down′ i) → (b j : ℕ) → b < n → j < n → overWay p up down least b j ≡ overWay p up′ down′ least b j
-unfolding overWay
-way-same p n tree up up′ down down′ least hu hd =
-    between-related p n tree (λ k x y. x ≡ y) (λ j k x y l h. h)
-    (λ b c v. floored least v (cond (ltb c b) (up b) (down c))) (λ b c v. floored least v (cond (ltb c b) (up′ b) (down′ c))) unity unity refl
-    (λ k b c x y lb lc e h. ap₂ (floored least) h (go b c lb lc e (ltb c b) refl))
-  where
-    go : (b c : ℕ) → b < n → c < n → joined p b c ≡ true → (s : Bool) → ltb c b ≡ s → cond s (up b) (down c) ≡ cond s (up′ b) (down′ c)
-    go b c lb lc e true q = hu b (to-parent p b c e q .0) lb
-    go b c lb lc e false q = hd c (to-child p b c e q .0) lc
-
-pub dividers-same : (G : Grid) → Treelike G → (z z′ s s′ t t′ : ℕ → Complex) → ((i : ℕ) → 0 < i → i < G .count → z i ≡ z′ i) → ((i : ℕ) → 0 < i → i < G .count → s i ≡ s′ i)
-    → ((i : ℕ) → 0 < i → i < G .count → t i ≡ t′ i) → (b j : ℕ) → b < G .count → j < G .count → dividersBy G z s t b j ≡ dividersBy G z′ s′ t′ b j
-dividers-same G tree z z′ s s′ t t′ hz hs ht =
-    way-same (parentOf G) (G .count) tree (dividerUp G z s) (dividerUp G z′ s′) (dividerDown G z t) (dividerDown G z′ t′) faintest
-    (λ i l k. ap₂ (λ u w. dividerBy u (timesSquare doubles (G .branch i .below) (G .branch i .above) (inverted w))) (hz i l k) (hs i l k))
-    (λ i l k. ap₂ (λ u w. dividerBy u (inverted w)) (hz i l k) (ht i l k))
 
 -- ---- a divider over plain numbers: N/P is the exact quotient of two squares, s/t the one in f64; u of the smallest are 1, and the sizes lie
 -- between 1/E and E

@@ -18,6 +18,7 @@ use Rattle.enclosure.specs.Fraction.{Fraction, whole, product, quotient, sizeSq
 use Rattle.enclosure.specs.Doubles.{nought, ratio, square, unity, floored, underRoot}
 use Rattle.enclosure.specs.declared.Complex.{Complex}
 use Rattle.enclosure.specs.laws.Nearness.{Near}
+use Rattle.enclosure.specs.laws.Root.{root-le}
 use Rattle.enclosure.specs.laws.Units.{span, Between, between-more}
 use Rattle.enclosure.specs.laws.StepErrors.{parts}
 use Rattle.enclosure.specs.laws.F64Errors.{value, size, Fine}
@@ -31,7 +32,7 @@ use Rattle.tree.specs.laws.Equations.{_⊛_}
 use Rattle.tree.specs.laws.Toward.{depth, depth-more}
 use Rattle.tree.specs.laws.FeederReaches.{Proper}
 use Rattle.tree.specs.laws.TreeBounds.{Sound, Levels, Plain, sound-proper}
-use Rattle.tree.specs.laws.Shares.{Equal, fourth, between-held, branches-between, dividers, share-square, terminal-square, terminal-proper}
+use Rattle.tree.specs.laws.Shares.{Equal, fourth, between-held, branches-between, dividers, share-square, share-proper, terminal-square, terminal-proper}
 use Rattle.tree.specs.laws.Ratios.{Crossed, Levelled, levelled-up, levelled-down, levelled-more}
 use Rattle.tree.specs.laws.Dividers.{seenAbove, seenBelow, dividers-reached, volts-ratio, near-between}
 
@@ -232,6 +233,13 @@ holds-same a c r m S z e h = record {
   under = from-over (a ∷ c ∷ underRoot r ∷ m ∷ S .top ∷ S .under ∷ []) c z (S .under ⋆ h .under ⊹ le-of-eq (sym e)) (search read depth 40 fits 20000) refl;
 }
 
+-- a root of at most 2 ^ 50 is found in fewer than 2 ^ 51 steps
+few-steps : (a c r : ℕ) → 0 < c → a ≤ 2 ^ 100 * c → RootHolds a c r → r + 1 ≤ 2 ^ 51
+few-steps a c r z l h =
+    let m : underRoot r ≤ 2 ^ 50 =
+    root-le (underRoot r) (2 ^ 50) (from-over (a ∷ c ∷ underRoot r ∷ []) c z (h .under ⊹ l) (search read depth 40 fits 20000) refl) in
+    omega (arith, m)
+
 -- the share at the terminals over the rated current, 1000·kva/(√3·volts), both squared
 abbrev pub ratedSquare : Grid → ℕ → Point → ℕ → ℕ → ℕ → ℕ → Fraction
 ratedSquare G v y b j volts kva = quotient (terminalSquare G v y b j) (record { top = 1000000 * (kva * kva); under = 3 * (volts * volts) })
@@ -284,6 +292,18 @@ module _ (G : Grid) (U : ℕ → ℕ) (sound : Sound G) (levels : Levels G U) (p
         (reached-bounds 432 599 (factor v y (ratios G b j)) (dividers G b j) _ _ (omega arith) about-factor reached
         (le-trans (about-span 599 _ (factor v y (ratios G b j)) _ (omega arith) (factor-span v y y′ (ratios G b j) (ratiosBy G b j) v₀ v₁ about-y span-y (carried .0) (carried .1)) about-factor .0)
         (mul-le-mul (le-refl _) (lit≤ tt))) small)
+
+    -- as no divider is above 1, the share's square is at most what stands before the dividers, so that its steps stay below 2 ^ 51
+    pub share-few : factor v y (ratios G b j) .top ≤ 2 ^ 100 * factor v y (ratios G b j) .under
+        → shareSteps (strengthBy (driveBy v) y′) (ratiosBy G b j) (dividersBy G z′ (seenAbove z′ own′ G) (seenBelow z′ own′ G) b j) + 1 ≤ 2 ^ 51
+    share-few small =
+        few-steps _ (shareSquare G v y b j .under) _ (share-proper G (sound .tree) (sound-proper G sound plain) v y b j (near-y .left) lb lj m)
+        (put (factor v y (ratios G b j)) (dividers G b j) (shareSquare G v y b j) (mul-pos (about-factor .proper) (reached .proper)) equal small (reached .most)) (share-bounds small)
+      where
+        put : (F D S : Fraction) → 0 < F .under * D .under → 16777216 * S .top * (F .under * D .under) ≡ F .top * D .top * S .under → F .top ≤ 2 ^ 100 * F .under → D .top ≤ D .under
+            → 16777216 * S .top ≤ 2 ^ 100 * S .under
+        put F D S z e p q =
+            from-over (F .top ∷ F .under ∷ D .top ∷ D .under ∷ S .top ∷ S .under ∷ []) (F .under * D .under) z (le-of-eq e ⊹ S .under ⋆ mul-le-mul p q) (search read depth 40 fits 20000) refl
 
     module _ (volts kva : ℕ) (a₀ : 0 < volts) (a₁ : volts ≤ 2 ^ 53) (s₀ : 0 < kva) (s₁ : 100 * kva ≤ 2 ^ 53) where
       about-rated : About 317 (ratedFactor v y (ratios G b j) volts kva) (ratedFactorBy (strengthBy (driveBy v) y′) (ratiosBy G b j) volts kva)

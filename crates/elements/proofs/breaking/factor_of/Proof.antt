@@ -1,5 +1,5 @@
 -- `elements::breaking::factor_of` meets its contract: the test of `muBy`, and its entry. Assumes nothing.
-use Prim.Native.Nat.{ℕ, _/_, min, _<_}
+use Prim.Native.Nat.{ℕ, _/_, min, _≤_, _<_}
 use mathlib.Core.Path.{_≡_, _∙_}
 use native.Mathlib.Omega.{arith}
 use borrow.Author.Needs.{needs}
@@ -10,20 +10,20 @@ use Rattle.elements.specs.Doubles.{muBy}
 use Rattle.elements.proofs.breaking.factor_of.Statement.{statement}
 use Rattle.elements.proofs.breaking.factor_of.Tie as tie
 
--- the entry that is read, for steps past the test
-entry : (delay r i : ℕ) → 81920 < underRoot r → min i 100 ≡ min (underRoot r / 4096) 100 → muOf delay (min i 100) ≡ muBy delay r
+-- u is what r is at least: 1 up to 2, and the entry that is read past it
+one : (delay r u : ℕ) → u ≡ underRoot r → u ≤ 81920 → 1000 ≡ muBy delay r
 unfolding muBy
-entry delay r i h e = rw (lt-leb (underRoot r) 81920 h, e)
+one delay r u e h = rw (← e, le-leb u 81920 h)
 
-sub-rest : tie.Need-sub-rest
-sub-rest c = search needs
+entry : (delay r u i : ℕ) → u ≡ underRoot r → 81920 < u → min i 100 ≡ min (u / 4096) 100 → muOf delay (min i 100) ≡ muBy delay r
+unfolding muBy
+entry delay r u i e h k = rw (← e, lt-leb u 81920 h, k)
+
+under-root-requires : tie.Need-under-root-requires
+under-root-requires c κs = search needs
 
 returns : tie.Need-returns
-unfolding muBy
-returns c = simp (le-leb (underRoot (c .before .args .steps)) 81920 (omega arith))
-
-sub-i : tie.Need-sub-i
-sub-i c = search needs
+returns c = let s = c .before .before in one (s .args .delay) (s .args .steps) _ (c .before .under-root .ensures) (omega arith)
 
 cast-breaking-factor : tie.Need-cast-breaking-factor
 cast-breaking-factor c = search needs
@@ -35,10 +35,14 @@ breaking-factor-requires-2 : tie.Need-breaking-factor-requires-2
 breaking-factor-requires-2 c κs = search needs
 
 returns-2 : tie.Need-returns-2
-returns-2 c = let s = c .before .before .before in c .breaking-factor .ensures ∙ entry (s .args .delay) (s .args .steps) _ (omega arith) (omega arith)
+returns-2 c =
+    let u = c .before .before .before in
+    c .breaking-factor .ensures ∙ entry (u .before .args .delay) (u .before .args .steps) _ _ (u .under-root .ensures) (omega arith) (omega arith)
 
 returns-3 : tie.Need-returns-3
-returns-3 c = let s = c .before .before .before in c .breaking-factor2 .ensures ∙ entry (s .args .delay) (s .args .steps) 100 (omega arith) (omega arith)
+returns-3 c =
+    let u = c .before .before .before in
+    c .breaking-factor2 .ensures ∙ entry (u .before .args .delay) (u .before .args .steps) _ 100 (u .under-root .ensures) (omega arith) (omega arith)
 
 pub factor-of-spec : {M : Type 1} → statement M
-factor-of-spec = tie.close (tie.spec sub-rest returns sub-i cast-breaking-factor breaking-factor-requires breaking-factor-requires-2 returns-2 returns-3)
+factor-of-spec = tie.close (tie.spec under-root-requires returns cast-breaking-factor breaking-factor-requires breaking-factor-requires-2 returns-2 returns-3)
