@@ -1,9 +1,17 @@
+use mathlib.Core.Path.{_≡_, refl, sym, _∙_}
+use mathlib.Core.Bool.{Bool, true, false, not}
 -- `number_after` meets its contract, ground by ground. Assumes nothing.
 use borrow.Author.Tests.{eq-eqb, ne-eqb, lt-ltb, le-ltb}
 use Rattle.breaking.specs.Doubles.{numberAfter}
 use borrow.Author.Needs.{needs}
 use Rattle.breaking.proofs.number_after.Statement.{statement}
 use Rattle.breaking.proofs.number_after.Tie as tie
+
+not-true : (t : Bool) → not t ≡ true → t ≡ false
+not-true false h = refl
+
+not-false : (t : Bool) → not t ≡ false → t ≡ true
+not-false true h = refl
 
 returns : tie.Need-returns
 unfolding numberAfter

@@ -19,9 +19,13 @@ use Rattle.network.specs.SourceKinds.{isGenerator, isConverter}
 use Rattle.breaking.specs.declared.parts.Part.{Part}
 use Rattle.breaking.specs.Doubles.{weighed, generatorPart, partBy, partOf, stepsFrom}
 
+pub root-fine-few : (x : Float) → rootFine x < 2 ^ 53
+unfolding rootFine
+root-fine-few x = root-small _
+
 pub share-few : (k ρ D : Float) → shareSteps k ρ D < 2 ^ 53
-unfolding shareSteps rootFine
-share-few k ρ D = root-small _
+unfolding shareSteps
+share-few k ρ D = root-fine-few _
 
 pub mu-by-most : (delay r : ℕ) → muBy delay r ≤ 1000
 unfolding muBy

@@ -1,3 +1,9 @@
+-- `generator_part` calculates its definition. Assumes nothing.
+use Prim.Native.Nat.{_/_, _^_, _≤_, _<_}
+use lib.Dec.{le→leb}
+use lib.Ieee.{inFloat}
+use Rattle.breaking.specs.Doubles.{generatorPart}
+use Rattle.breaking.specs.laws.Tables.{mu-by-most}
 use borrow.Author.Needs.{needs}
 use Rattle.breaking.proofs.parts.generator_part.Statement.{statement}
 use Rattle.breaking.proofs.parts.generator_part.Tie as tie
@@ -18,9 +24,11 @@ amperes-up-requires : tie.Need-amperes-up-requires
 amperes-up-requires c κs = search needs
 
 int-to-float-t11 : tie.Need-int-to-float-t11
+unfolding inFloat
 int-to-float-t11 c = ?
 
 int-to-float-t12 : tie.Need-int-to-float-t12
+unfolding inFloat
 int-to-float-t12 c = ?
 
 factor-of-requires : tie.Need-factor-of-requires
@@ -30,10 +38,13 @@ add-weigh : tie.Need-add-weigh
 add-weigh c = search needs
 
 weigh-requires : tie.Need-weigh-requires
-weigh-requires c κs = search needs
+weigh-requires c κs = ?
 
 returns : tie.Need-returns
-returns c = ?
+unfolding generatorPart
+returns c =
+    let u = c .before .before .before .before .before in
+    rw (c .weigh .ensures, c .before .factor-of .ensures, c .before .before .before .before .amperes-up .ensures, u .under-root .ensures, u .before .rated-steps .ensures, u .before .before .share-steps .ensures .0)
 
 pub generator-part-spec : {M : Type 1} → statement M
 generator-part-spec =
