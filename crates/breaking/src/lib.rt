@@ -41,10 +41,11 @@ fn number_after(found: u32, delay: u32, total: usize, room: usize) -> u32
     if found != 0 {
         return found;
     }
-    if !delay_ok(delay) {
-        return 31;
+    if delay_ok(delay) {
+        if room < 2 * total { 30 } else { 0 }
+    } else {
+        31
     }
-    if room < 2 * total { 30 } else { 0 }
 }
 
 // The breaking figure of a bus, and in the table two numbers a source in source order: whole bounds of a generator's share, 0 and 0 of any

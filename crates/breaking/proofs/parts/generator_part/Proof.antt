@@ -25,11 +25,15 @@ amperes-up-requires c κs = search needs
 
 int-to-float-t11 : tie.Need-int-to-float-t11
 unfolding inFloat
-int-to-float-t11 c = ?
+int-to-float-t11 c =
+    let u = c .before .before in
+    le→leb (u .under-root .result / 4096) (2 ^ 53) (omega (arith, u .under-root .ensures, u .before .before .share-steps .ensures .1))
 
 int-to-float-t12 : tie.Need-int-to-float-t12
 unfolding inFloat
-int-to-float-t12 c = ?
+int-to-float-t12 c =
+    let a = c .before .before in
+    le→leb (a .amperes-up .result) (2 ^ 53) (omega (arith, a .amperes-up .ensures, a .before .before .before .share-steps .ensures .1))
 
 factor-of-requires : tie.Need-factor-of-requires
 factor-of-requires c κs = search needs
@@ -38,7 +42,7 @@ add-weigh : tie.Need-add-weigh
 add-weigh c = search needs
 
 weigh-requires : tie.Need-weigh-requires
-weigh-requires c κs = ?
+weigh-requires c κs = (omega (arith, c .before .before .before .before .before .before .share-steps .ensures .1), rw (c .factor-of .ensures) (mu-by-most _ _))
 
 returns : tie.Need-returns
 unfolding generatorPart
