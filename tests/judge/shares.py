@@ -88,7 +88,9 @@ class Square:
         return Square(top, bottom, None, self)
 
     def compare(self, n):
-        """Sign of n − the number, n whole."""
+        """Sign of n − the number, n whole; no number here is 0."""
+        if n == 0:
+            return -1
         low, high = self.span.scaled(ENCLOSED_BITS)
         n <<= ENCLOSED_BITS
         if n < low:
