@@ -225,7 +225,8 @@ class Bench:
     machines, since many files differ in converters or ratings alone.
     """
 
-    def __init__(self):
+    def __init__(self, shares_class=Shares):
+        self.shares_class = shares_class
         self.kept = {}
         self.buses = 0
         self.shared = {}
@@ -250,7 +251,7 @@ class Bench:
         if key not in self.shared:
             while len(self.shared) >= SHARES_KEPT:
                 self.shared.pop(next(iter(self.shared)))
-            self.shared[key] = Shares(network)
+            self.shared[key] = self.shares_class(network)
         return self.shared[key]
 
 

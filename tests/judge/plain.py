@@ -210,6 +210,20 @@ class PlainNetwork:
         own = self.machine(source).inverse()
         return square * own.square() / self.seen(source.bus, before).square()
 
+    def share_nearly(self, b, source):
+        """In floating point and by another way: from the voltage at the fault the voltages
+        along the way, then the current through the machine, carried back."""
+        volts = self.buses[b].volts
+        voltage, back = float(self.c(volts)) * volts / 3**0.5, 1.0
+        way = self.way(b, source.bus)
+        for at, n in zip(way, way[1:]):
+            squared = float(self.ratio(n, at)) ** 2
+            z = nearly(self.branch(max(n, at))) * (1 if at > n else squared)
+            far = squared / self.seen_nearly(n, at)
+            voltage *= far / (z + far) * float(self.ratio(at, n))
+            back *= float(self.ratio(at, n))
+        return abs(voltage / nearly(self.machine(source))) * back
+
     def q_square(self, b, source):
         """At the generator's terminals; a current falls as the rated volts rise."""
         square = self.share_square(b, source)

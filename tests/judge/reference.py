@@ -6,7 +6,7 @@ python3 tests/judge/reference.py console
 It serves to test run.py.  Bounds are the whole numbers next to the exact
 parts and shares, peaks come from sixteen steps between the entries of the peak
 table, a breaking figure is the least whole number not below its sum.  --fault
-plants one of faults.py.
+plants one of faults.py or breaking_faults.py.
 """
 
 import argparse
@@ -19,7 +19,7 @@ from breaking import BreakingJudge
 from calls import FILL, MOST_ROOM, MOST_TABLE, TABLE_FILL
 from exact import Network, peak_thousandths
 from judge import NO_AMPERES, Amperes, Bench, verdict
-from shares import RootSum
+from shares import RootSum, Shares
 
 CALL = re.compile(r"(start|bus|source|close|query|breaking|write)((?:,(?:0|[1-9][0-9]{0,9}))*)")
 COUNTS = {"start": 1, "bus": 10, "source": 7, "close": 0, "query": 1, "breaking": 3, "write": 1}
@@ -32,11 +32,13 @@ class StandIn:
 
     study_class = Study
     network_class = Network
+    shares_class = Shares
     benches = {}
 
     def __init__(self):
         self.study = self.study_class()
-        self.bench = self.benches.setdefault(self.network_class, Bench())
+        classes = self.network_class, self.shares_class
+        self.bench = self.benches.setdefault(classes, Bench(self.shares_class))
         self.worked_out = None, None
         self.broken = None, {}
 
@@ -208,13 +210,15 @@ class InProcess:
 
 
 def main():
+    from breaking_faults import BREAKING_FAULTS
     from faults import FAULTS
 
+    faults = FAULTS | BREAKING_FAULTS
     parser = argparse.ArgumentParser(description=__doc__.splitlines()[0])
     parser.add_argument("role", choices=["program", "console"])
-    parser.add_argument("--fault", choices=sorted(FAULTS))
+    parser.add_argument("--fault", choices=sorted(faults))
     options = parser.parse_args()
-    stand_in = (FAULTS[options.fault] if options.fault else StandIn)()
+    stand_in = (faults[options.fault] if options.fault else StandIn)()
     if options.role == "program":
         sys.stdout.buffer.write(stand_in.program(sys.stdin.buffer.read()))
         return

@@ -179,11 +179,14 @@ class Shares:
     def passing(self, b, n):
         """The factor of a branch passed from b to n, None where no machine is behind it."""
         if (b, n) not in self.passed:
-            down = self.network.buses[n].parent == b and n > b
-            added = self.sweeps.sent[n] if down else self.sweeps.above[b]
-            seen = self.sweeps.below[n] if down else self.sweeps.beside[b]
-            self.passed[b, n] = self.divided(added, seen)
+            self.passed[b, n] = self.divided(*self.sides(b, n))
         return self.passed[b, n]
+
+    def sides(self, b, n):
+        """What a neighbour n adds at b, and Seen(n without b)."""
+        if n > b:
+            return self.sweeps.sent[n], self.sweeps.below[n]
+        return self.sweeps.above[b], self.sweeps.beside[b]
 
     def divided(self, added, seen):
         if added is None:
