@@ -116,8 +116,8 @@ def made(name, volts, tolerance=6):
 
 
 def up_to_two():
-    """q exactly 2, and next to it on both sides: at the bus, with ρ, behind a line and behind
-    transformers whose rated ratio is not the nominal one."""
+    """q exactly 2, and next to it on both sides: at the bus, with ρ, behind a line, and behind a
+    line and a transformer whose rated ratio is not the nominal one."""
     found = []
     for rho, xd in ((0, 50000), (75, 40000)):
         for beside in (-1, 0, 1):
@@ -131,6 +131,13 @@ def up_to_two():
         plan.draft.line(0, 0, 1000, metres, 1)
         plan.draft.generator(1, 10000, 10000, 20000, 0, 100)
         plan.draft.motor(0, 10000, 100, 50, 0)
+        found.append(plan)
+    for x in (87779, 87780, 87781):
+        plan = made(f"q of 2 behind a transformer and a line of x {x}", 10000, 10)
+        plan.draft.feeder(1000, 0)
+        plan.draft.line(0, 0, x, 4, 8)
+        plan.draft.transformer(1, 400, (9600, 400), 10**6, 4000, 0)
+        plan.draft.generator(2, 380, 800000, 12500, 0, 100)
         found.append(plan)
     return found
 
@@ -273,8 +280,8 @@ def with_reactance(rows, place, xd):
 
 
 def tuned(rng):
-    """A small network, one generator's xd set so that its q lies next to 2 or to a tenth: the
-    tolerance, and the rows on either side of that border where it has one."""
+    """A small network, one generator's xd set so that its q lies next to 2 or to another
+    tenth: the tolerance, and the rows on either side of that border where it has one."""
     draft = random_tree(rng, rng.randint(1, 6), rng.randint(1, 7))
     draft.generator(draft.any_bus(), None, amount(rng, 1000, 10**6))
     place, bus = len(draft.rows) - 1, draft.any_bus()

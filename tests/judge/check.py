@@ -169,7 +169,7 @@ class Checker:
         ]
 
     def breaking_reason(self, study, bus, delay, room, answer):
-        """The answer shows the whole lent table, so that a number changed beyond the last source's is seen."""
+        """The answer shows the whole lent table, so that any number changed in it is seen."""
         number = study.breaking(bus, delay, room)
         self.tally.breakings[number] += 1
         if number:

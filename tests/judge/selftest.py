@@ -19,7 +19,7 @@ from breaking_faults import BREAKING_FAULTS
 from breakings import BROKEN, drawn_breakings, every_tenth, fixed_breakings, tuned
 from calls import as_calls, carried_out, drawn_calls, line_of
 from cases import breaking_units, drawn_unit, fixed_units, run_unit
-from exact import f_millionths, peak_thousandths, series, sine, transformer_ux
+from exact import GENERATOR, f_millionths, peak_thousandths, series, sine, transformer_ux
 from faults import FAULTS
 from fixed import fixed_networks, table_steps
 from judge import Amperes, Bench, peak_reasons, verdict
@@ -445,6 +445,17 @@ def shares_against_floats(tests):
                     tests.true(f"{family.__name__}: share at {b} in floating point", same)
 
 
+def two_reached(tests):
+    """Of each three plans with q about 2 the first is above, the second at it and the third below."""
+    plans = [plan for plan in fixed_breakings() if plan.name.startswith("q of 2")]
+    signs = []
+    for plan in plans:
+        study = study_of(plan.draft)
+        place = next(i for i, source in enumerate(study.sources) if source.kind == GENERATOR)
+        signs.append(breaking_judge(study, 0).shares[place].q_square.compare(4))
+    tests.same("q about 2", signs, [-1, 0, 1] * 4)
+
+
 def sums_of_roots(tests):
     """Comparisons that the first enclosure cannot tell, and sums that are fractions."""
     for n, due in ((5, 0), (Fraction(5) - Fraction(1, 10**300), -1), (Fraction(5) + Fraction(1, 10**300), 1)):
@@ -457,7 +468,8 @@ def sums_of_roots(tests):
             given = compare_roots(Fraction(floor + step, scale), terms)
             tests.same(f"root 2 + root 3 to {digits} digits, {step:+}", given, due)
     whole = RootSum([(500, Square(16, 1)), (1000, Square(75, 3)), (0, Square(2, 1))], Fraction(1, 2))
-    signs = [whole.compare(Fraction(15, 2) + beside) for beside in (-Fraction(1, 9**99), 0, Fraction(1, 9**99))]
+    beside = Fraction(1, 9**99)
+    signs = [whole.compare(Fraction(15, 2) + step * beside) for step in (-1, 0, 1)]
     tests.same("half of 4, 5 and a half", (signs, whole.ceiling()), ([-1, 0, 1], 8))
 
 
@@ -535,7 +547,8 @@ def drawn_near(tests, count=200):
             else:
                 study = carried_out(study, (name, *rest))[1]
     met = ", ".join(f"{number}: {numbers[number]}" for number in sorted(numbers))
-    print(f"of {count} generators tuned {pairs} have q on both sides of a tenth; breakings drawn by number {met}")
+    print(f"of {count} generators tuned {pairs} have q on both sides of a tenth")
+    print(f"breakings drawn by number: {met}")
     tests.true("one in three is tuned", 3 * pairs >= count)
     tests.same("grounds of a breaking drawn", set(numbers), {0, 15, 22, 30, 31})
 
@@ -634,6 +647,7 @@ def main():
     worked_breaking(tests)
     shares_against_plain(tests)
     shares_against_floats(tests)
+    two_reached(tests)
     sums_of_roots(tests)
     squares_compared(tests)
     breaking_borders(tests)
