@@ -93,6 +93,7 @@ def nearly(z):
 class PlainNetwork:
     def __init__(self, tolerance, buses, sources):
         self.tolerance, self.buses, self.sources = tolerance, buses, sources
+        self.near = {}
 
     def c(self, volts):
         return c(volts, self.tolerance)
@@ -162,7 +163,9 @@ class PlainNetwork:
         return (z + y.inverse().times(squared)).inverse()
 
     def seen_nearly(self, b, without=None):
-        """The same in floating point, 0 where no machine is."""
+        """The same in floating point, 0 where no machine is; what was found is kept."""
+        if (b, without) in self.near:
+            return self.near[b, without]
         found = 0j
         for source in self.sources:
             if source.bus == b and source.kind != CONVERTER:
@@ -173,6 +176,7 @@ class PlainNetwork:
                 squared = float(self.ratio(n, b)) ** 2
                 z = nearly(self.branch(max(n, b)))
                 found += 1 / ((z if b > n else z * squared) + squared / y)
+        self.near[b, without] = found
         return found
 
     def converters(self, b, without=None):
@@ -212,7 +216,7 @@ class PlainNetwork:
 
     def share_nearly(self, b, source):
         """In floating point and by another way: from the voltage at the fault the voltages
-        along the way, then the current through the machine, carried back."""
+        along the way, then the current through the machine; carried back, and as it is there."""
         volts = self.buses[b].volts
         voltage, back = float(self.c(volts)) * volts / 3**0.5, 1.0
         way = self.way(b, source.bus)
@@ -222,7 +226,8 @@ class PlainNetwork:
             far = squared / self.seen_nearly(n, at)
             voltage *= far / (z + far) * float(self.ratio(at, n))
             back *= float(self.ratio(at, n))
-        return abs(voltage / nearly(self.machine(source))) * back
+        current = abs(voltage / nearly(self.machine(source)))
+        return current * back, current
 
     def q_square(self, b, source):
         """At the generator's terminals; a current falls as the rated volts rise."""

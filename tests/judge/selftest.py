@@ -18,8 +18,8 @@ from breaking import BreakingJudge
 from breaking_faults import BREAKING_FAULTS
 from breakings import BROKEN, drawn_breakings, every_tenth, fixed_breakings, tuned
 from calls import as_calls, carried_out, drawn_calls, line_of
-from cases import breaking_units, drawn_unit, fixed_units, run_unit
-from exact import GENERATOR, f_millionths, peak_thousandths, series, sine, transformer_ux
+from cases import Unit, breaking_case, breaking_units, drawn_unit, fixed_units, run_unit
+from exact import CONVERTER, GENERATOR, f_millionths, peak_thousandths, series, sine, transformer_ux
 from faults import FAULTS
 from fixed import fixed_networks, table_steps
 from judge import Amperes, Bench, peak_reasons, verdict
@@ -439,10 +439,59 @@ def shares_against_floats(tests):
             pairs = [pair for pair in zip(study.sources, breaking_judge(study, b).shares) if pair[1]]
             for source, share in pairs[:: len(pairs) // 5 + 1]:
                 low, high = share.square.root_bounds()
-                near = plain.share_nearly(b, source)
+                near, _ = plain.share_nearly(b, source)
                 if near > 1e-9:
                     same = abs(low / 2**128 / near - 1) < 1e-9 and high - low < low >> 64
                     tests.true(f"{family.__name__}: share at {b} in floating point", same)
+
+
+class InFloats(StandIn):
+    """Breaking by floating point and voltages, with nothing of shares.py but the tables."""
+
+    margin = 1e-9
+    worked = None, None
+
+    def plain(self, study):
+        if self.worked[0] is not study:
+            self.worked = study, PlainNetwork(study.tolerance, study.buses, study.sources)
+        return self.worked[1]
+
+    def factor(self, source, current, delay):
+        if source.kind != GENERATOR:
+            return 1.0
+        volts, kva = source.fields[:2]
+        q = current * 3**0.5 * volts / (1000 * kva)
+        if q <= 2 * (1 + self.margin):
+            return 1.0
+        return TABLES[delay][min(100, int(10 * q * (1 - self.margin)))] / 1000
+
+    def breaking(self, bus, delay, table):
+        number = self.study.breaking(bus, delay, len(table))
+        if number:
+            return number, 0
+        plain = self.plain(self.study)
+        figure = float(plain.converters(bus))
+        for place, source in enumerate(self.study.sources):
+            table[2 * place : 2 * place + 2] = 0, 0
+            if source.kind != CONVERTER:
+                share, current = plain.share_nearly(bus, source)
+                figure += share * self.factor(source, current, delay)
+                if source.kind == GENERATOR:
+                    bounds = int(share * (1 - self.margin)), int(share * (1 + self.margin)) + 1
+                    table[2 * place : 2 * place + 2] = bounds
+        return 0, int(figure * (1 + self.margin)) + 1
+
+
+def floats_accepted(tests):
+    """A calculation that shares nothing with the judge is not blamed."""
+    small = [plan for plan in fixed_breakings() if len(plan.draft.buses) <= 40 >= plan.draft.sources]
+    units = [breaking_units()[0], Unit([breaking_case(plan) for plan in small])]
+    units.append(drawn_unit("breakings", 3, range(25)))
+    for unit in units:
+        outcome = run_unit(InProcess(InFloats), unit, BENCH)
+        for failure in outcome.failures:
+            print(f"{failure.name}: {failure.reason}")
+        tests.true("floating point accepted", outcome.passed and not outcome.failures)
 
 
 def two_reached(tests):
@@ -647,6 +696,7 @@ def main():
     worked_breaking(tests)
     shares_against_plain(tests)
     shares_against_floats(tests)
+    floats_accepted(tests)
     two_reached(tests)
     sums_of_roots(tests)
     squares_compared(tests)
