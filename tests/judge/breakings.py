@@ -11,7 +11,7 @@ from typing import NamedTuple
 
 from accept import BUSES, DELAYS, SOURCES
 from calls import LOW_VOLTAGE, MOST_TABLE, as_calls, queries, wrong_record
-from exact import GENERATOR, MOTOR, Network
+from exact import CONVERTER, GENERATOR, MOTOR, Network
 from fixed import drawn_once, far_ends, greatest_currents, worked_points
 from networks import Draft, amount, any_network, arm, random_tree
 from refusals import BASE, GREATEST
@@ -39,7 +39,7 @@ def tries(buses, sources):
     for bus in (0, buses - 1, buses, GREATEST):
         for delay in (20, 250, 21, GREATEST):
             for room in (0, 1, 2 * sources - 1, 2 * sources, 2 * sources + 1, MOST_TABLE):
-                found.append(("breaking", bus, delay, max(room, 0)))
+                found.append(("breaking", bus, delay, room))
     return found
 
 
@@ -84,16 +84,14 @@ def broken_tolerances():
 
 def broken_sources():
     """Tables for one source to the most, each enough, one too short and longer."""
-    found = [("start", 6), *as_calls(BASE[:2])]
-    made = 1
+    found = []
     for count in (1, 2, 3, 10, 63, 64, 65, 256, 257, SOURCES - 1, SOURCES):
-        while made < count:
-            kind = (GENERATOR, 0, 20000, 10 + made, 20000, made % 200, 70 + made % 31)
-            found.append(("source", kind if made % 3 else (4, 0, made, 150, 0, 0, 0)))
-            made += 1
-        found += [("close",), *breakings([0], [2 * count - 1, 2 * count, 2 * count + 1, MOST_TABLE])]
-        found += [("start", 6), *as_calls(BASE[:2])] if count < SOURCES else []
-        made = 1
+        found += [("start", 6), *as_calls(BASE[:2])]
+        for n in range(1, count):
+            generator = (GENERATOR, 0, 20000, 10 + n, 20000, n % 200, 70 + n % 31)
+            found.append(("source", generator if n % 3 else (CONVERTER, 0, n, 150, 0, 0, 0)))
+        rooms = [2 * count - 1, 2 * count, 2 * count + 1, MOST_TABLE]
+        found += [("close",), *breakings([0], rooms)]
     return found
 
 
