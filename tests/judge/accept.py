@@ -1,7 +1,7 @@
 """Which calls and which files are accepted, with number and row; a study as text.
 
 Written from document 01 alone ("The study", "The file" and the two lists of
-grounds) and from orders 1 and 2 of document 02.  A Study is never changed: each
+grounds) and from orders 1 to 3 of document 02.  A Study is never changed: each
 call gives its number and the study after it, so that a refused call gives back
 the study it was made on.
 """
@@ -24,7 +24,8 @@ BUSES_BEFORE, SOURCES_BEFORE = 64, 256
 BRANCHES, TRANSFORMERS = 18, 4
 TEXT_BYTES = 65536
 FORM = 16
-NOT_CLOSED, TOO_SHORT = 22, 30
+NOT_CLOSED, TOO_SHORT, NO_DELAY = 22, 30, 31
+DELAYS = 20, 50, 100, 250
 
 
 def within(value, low, high):
@@ -82,6 +83,16 @@ class Study:
         if not self.closed:
             return NOT_CLOSED
         return 15 if bus >= len(self.buses) else 0
+
+    def breaking(self, bus, delay, room):
+        """The number alone, as for a query; `room` is the length of the lent table."""
+        return first_true(self.breaking_grounds(bus, delay, room))
+
+    def breaking_grounds(self, bus, delay, room):
+        yield NOT_CLOSED, not self.closed
+        yield 15, bus >= len(self.buses)
+        yield NO_DELAY, delay not in DELAYS
+        yield TOO_SHORT, room < 2 * len(self.sources)
 
     def write(self, lent):
         """Number, length and the lent bytes after the call; it does not change the study."""

@@ -1,9 +1,9 @@
 """Lists of single calls, fixed and drawn, with refused ones among them.
 
 A call is a tuple: ("start", tolerance), ("bus", ten numbers), ("source", seven
-numbers), ("close",), ("query", bus), ("write", room), ("read", bytes), ("read
-capitals", bytes), the same in capital digits, or ("other", line) for a line that
-is no call at all.
+numbers), ("close",), ("query", bus), ("breaking", bus, delay, room), ("write",
+room), ("read", bytes), ("read capitals", bytes), the same in capital digits, or
+("other", line) for a line that is no call at all.
 """
 
 from accept import BUSES, BUSES_BEFORE, SOURCES, SOURCES_BEFORE
@@ -15,6 +15,10 @@ from texts import SMALL, TEXT, spoil
 # The console lends a writing so many bytes at most, each filled so that a changed one shows.
 MOST_ROOM = 70_000
 FILL = b"\x55"
+
+# A breaking gets a table of so many numbers at most, each of them this one.
+MOST_TABLE = 1_100
+TABLE_FILL = 7
 
 NO_CALLS = [
     "hello",
@@ -44,6 +48,24 @@ NO_CALLS = [
     f"write,{GREATEST}",
     "write,4294967296",
     "Write,100",
+    "breaking",
+    "breaking,",
+    "breaking,0",
+    "breaking,0,20",
+    "breaking,0,20,",
+    "breaking,0,20,10,0",
+    "breaking,0,020,10",
+    "breaking,x,20,10",
+    "breaking,0,-20,10",
+    "breaking,0,20,10 ",
+    "breaking,4294967296,20,10",
+    "breaking,0,4294967296,10",
+    "breaking,0,20,4294967296",
+    f"breaking,0,20,{MOST_TABLE + 1}",
+    f"breaking,0,20,{GREATEST}",
+    "Breaking,0,20,10",
+    "breakings,0,20,10",
+    "break,0,20,10",
     "read",
     "read,0",
     "read,0g",
@@ -61,6 +83,7 @@ NO_CALLS = [
     "close,",
     "close;",
     "query;0",
+    "breaking;0,20,10",
     "write;5",
     "read;" + SMALL.hex(),
     # the bytes beside 0 to 9, A to F and a to f, in either place of a pair

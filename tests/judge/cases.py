@@ -8,6 +8,7 @@ from random import Random
 from typing import NamedTuple, Optional
 
 from accept import Study
+from breakings import BROKEN, breaking_calls, drawn_breakings, fixed_breakings
 from calls import FIXED, at_once, drawn_calls, line_of, queries, states
 from check import Checker
 from fixed import fixed_networks
@@ -123,6 +124,7 @@ def fixed_units():
     units.append(Unit([Case(f"calls: {make.__name__}", make()) for make in WRITTEN]))
     units.append(Unit([], writings=fixed_writings()))
     units += [text_unit(part, i % 8, 8) for i, part in enumerate(chunks(texts, 100))]
+    units += breaking_units()
     plans = []
     for i, (name, draft) in enumerate(fixed_networks()):
         small = len(draft.buses) <= 3 and not name.startswith("feeder")
@@ -130,11 +132,23 @@ def fixed_units():
     return units + [Unit([], part) for part in chunks(plans, 8)]
 
 
-def drawn_units(seed, networks, texts, lists, writings):
-    """Arguments of drawn_unit for so many networks, broken texts, lists of calls and writings."""
+def breaking_units():
+    """Order 3: lists of calls, and networks asked at their buses with all delays."""
+    lists = [Case(f"calls: {make.__name__}", make()) for make in BROKEN]
+    networks = [breaking_case(plan) for plan in fixed_breakings()]
+    return [Unit(part) for part in (lists, *chunks(networks, 8))]
+
+
+def breaking_case(plan):
+    calls = breaking_calls(plan)
+    return Case(f"breaking: {plan.name}", calls, calls[0][1])
+
+
+def drawn_units(seed, networks, texts, lists, writings, breakings):
+    """Arguments of drawn_unit for so many networks, broken texts, lists of calls, writings and breakings."""
     found = []
     kinds = ("networks", networks, 8), ("bytes", texts, 100), ("calls", lists, 20)
-    for kind, count, size in (*kinds, ("writes", writings, 20)):
+    for kind, count, size in (*kinds, ("writes", writings, 20), ("breakings", breakings, 10)):
         found += [(kind, seed, part) for part in chunks(range(count), size)]
     return found
 
@@ -146,6 +160,8 @@ def drawn_unit(kind, seed, places):
         return Unit([], [drawn_plan(*draw) for draw in draws])
     if kind == "calls":
         return Unit([Case(name, drawn_calls(rng)) for name, _, rng in draws])
+    if kind == "breakings":
+        return Unit([Case(name, drawn_breakings(rng)) for name, _, rng in draws])
     if kind == "writes":
         return Unit([], writings=[drawn_writing(name, rng) for name, _, rng in draws])
     return text_unit([(name, spoil(rng, any_network(rng)[1].file())) for name, _, rng in draws], 0, 20)

@@ -5,7 +5,8 @@ from collections import Counter
 from os.path import commonprefix
 
 from accept import Study
-from calls import FILL, carried_out
+from breaking import BreakingJudge
+from calls import FILL, TABLE_FILL, carried_out
 from exact import CONVERTER
 from judge import MACHINES_NEAR, NO_AMPERES, Amperes, Bench, verdict_reasons
 
@@ -23,6 +24,8 @@ class Tally:
         self.refused = Counter()
         self.writes = Counter()
         self.read_back = 0
+        self.breakings = Counter()
+        self.shares = 0
         self.worst = {}
 
     def note(self, figure, value):
@@ -38,6 +41,13 @@ class Tally:
         least = judge.converters.peak_ceiling()
         self.note("peak", (amperes.converters_peak - least) / (4 + least / 50))
 
+    def note_breaking(self, judge, delay, figure, table):
+        for place, _ in judge.generators():
+            lower, upper = table[2 * place : 2 * place + 2]
+            self.shares += 1
+            self.note("share", 1000 * (upper - lower) / (2000 + upper))
+        self.note("figure", judge.figure_excess(delay, figure))
+
     def add(self, other):
         self.networks += other.networks
         self.buses += other.buses
@@ -45,6 +55,8 @@ class Tally:
         self.refused += other.refused
         self.writes += other.writes
         self.read_back += other.read_back
+        self.breakings += other.breakings
+        self.shares += other.shares
         for figure, value in other.worst.items():
             self.note(figure, value)
 
@@ -77,6 +89,7 @@ class Checker:
         self.tally = Tally()
         self.given = {}
         self.judged = None, None
+        self.broken = None, {}
 
     def judges(self, study):
         if self.judged[0] is not study:
@@ -101,6 +114,8 @@ class Checker:
             return study, "" if right else f"{answer[:60]!r} where error is due"
         if name == "query":
             return study, self.query_reason(study, rest[0], answer)
+        if name == "breaking":
+            return study, self.breaking_reason(study, *rest, answer)
         if name == "write":
             return study, self.write_reason(study, rest[0], answer)
         given, study = carried_out(study, call)
@@ -152,6 +167,39 @@ class Checker:
             f"machines' amperes {amperes.machines} differ from {before}, given for a network"
             " alike in all but its converters"
         ]
+
+    def breaking_reason(self, study, bus, delay, room, answer):
+        """The answer shows the whole lent table, so that any number changed in it is seen."""
+        number = study.breaking(bus, delay, room)
+        self.tally.breakings[number] += 1
+        if number:
+            self.tally.refused[number] += 1
+            due = ",".join(map(str, (number, 0, *[TABLE_FILL] * room)))
+            return "" if answer == due else f"{answer[:60]!r} where {due[:60]!r} is due"
+        numbers = numbers_of(answer.split(","))
+        if numbers is None or len(numbers) != 2 + room:
+            return f"{answer[:60]!r} is no answer to an accepted breaking"
+        if numbers[0] != 0:
+            return f"breaking refused with {numbers[0]} where it is accepted"
+        return self.table_reason(study, bus, delay, numbers[1], numbers[2:])
+
+    def table_reason(self, study, bus, delay, figure, table):
+        count = 2 * len(study.sources)
+        if any(number != TABLE_FILL for number in table[count:]):
+            return "a number beyond the last source's is changed"
+        judge = self.breaking_judge(study, bus)
+        reasons = judge.reasons(delay, figure, table[:count])
+        if not reasons:
+            self.tally.note_breaking(judge, delay, figure, table)
+        return f"bus {bus}, {delay} ms: " + "; ".join(reasons) if reasons else ""
+
+    def breaking_judge(self, study, bus):
+        if self.broken[0] is not study:
+            self.broken = study, {}
+        kept = self.broken[1]
+        if bus not in kept:
+            kept[bus] = BreakingJudge(self.bench, study.network(), bus)
+        return kept[bus]
 
     # The program
 

@@ -180,6 +180,18 @@ class MachineValues(NamedTuple):
     x: int
 
 
+class Sweeps(NamedTuple):
+    """Admittances by bus b: Seen(b without its parent) and what that adds at the parent,
+    Seen(the parent without b) and what that adds at b, which bus 0 has none of; and
+    Seen(b without none)."""
+
+    below: list
+    sent: list
+    beside: list
+    above: list
+    seen: list
+
+
 class Network:
     """Tolerance, bus records and source records of an accepted network."""
 
@@ -273,8 +285,8 @@ class Network:
                 at[source.bus].append(reduced(d, 0, a, b))
         return [total(part) for part in at]
 
-    def seen_everywhere(self):
-        """Seen(b without none) for all buses, by two sweeps.
+    def sweeps(self):
+        """The Sweeps of the network.
 
         The first goes from the last bus to bus 0 and finds what each bus
         sends to its parent.  The second goes from bus 0 outwards: a child
@@ -283,12 +295,11 @@ class Network:
         """
         count = len(self.buses)
         own = self.own_admittances()
-        sent = [None] * count
+        below, sent = [None] * count, [None] * count
         for b in range(count - 1, 0, -1):
-            parts = [own[b]] + [sent[n] for n in self.children[b]]
-            sent[b] = self.to_parent(b, total(parts))
-        seen = [None] * count
-        above = [None] * count
+            below[b] = total([own[b]] + [sent[n] for n in self.children[b]])
+            sent[b] = self.to_parent(b, below[b])
+        beside, above, seen = [None] * count, [None] * count, [None] * count
         for b in range(count):
             start = plus(own[b], above[b])
             children = self.children[b]
@@ -298,10 +309,15 @@ class Network:
             before = start
             for n in children:
                 after.pop()
-                above[n] = self.from_parent(n, plus(before, after[-1]))
+                beside[n] = plus(before, after[-1])
+                above[n] = self.from_parent(n, beside[n])
                 before = plus(before, sent[n])
             seen[b] = before
-        return seen
+        return Sweeps(below, sent, beside, above, seen)
+
+    def seen_everywhere(self):
+        """Seen(b without none) for all buses."""
+        return self.sweeps().seen
 
     # Converters
 

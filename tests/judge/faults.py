@@ -20,21 +20,25 @@ from exact import (
 )
 from judge import Amperes
 from reference import StandIn
+from shares import Shares
 
 FAULTS = {}
+PARTS = {Study: "study_class", Network: "network_class", Shares: "shares_class"}
 
 
-def planted(kind):
-    """Enter a fault under its class's words: a StandIn, or the study or network of one."""
-    name = "".join(" " + c.lower() if c.isupper() else c for c in kind.__name__).strip()
-    if issubclass(kind, Study):
-        stand_in = type(kind.__name__, (StandIn,), {"study_class": kind})
-    elif issubclass(kind, Network):
-        stand_in = type(kind.__name__, (StandIn,), {"network_class": kind})
-    else:
-        stand_in = kind
-    FAULTS[name] = stand_in
-    return kind
+def planted_in(faults):
+    """Enters a fault under its class's words: a StandIn, or the study, network or shares of one."""
+
+    def enter(kind):
+        name = "".join(" " + c.lower() if c.isupper() else c for c in kind.__name__).strip()
+        part = next((word for base, word in PARTS.items() if issubclass(kind, base)), None)
+        faults[name] = type(kind.__name__, (StandIn,), {part: kind}) if part else kind
+        return kind
+
+    return enter
+
+
+planted = planted_in(FAULTS)
 
 
 # Peaks

@@ -12,6 +12,7 @@ from math import isqrt
 from typing import NamedTuple
 
 from exact import CONVERTER, FIXED_BITS, kappa_bounds, series
+from shares import Shares
 
 LIMIT = 2**53
 
@@ -214,6 +215,7 @@ def verdict_reasons(amperes, letter, given, bus):
 
 
 BUSES_KEPT = 4096
+SHARES_KEPT = 8
 
 
 class Bench:
@@ -223,9 +225,11 @@ class Bench:
     machines, since many files differ in converters or ratings alone.
     """
 
-    def __init__(self):
+    def __init__(self, shares_class=Shares):
+        self.shares_class = shares_class
         self.kept = {}
         self.buses = 0
+        self.shared = {}
 
     def judges(self, network):
         """A BusJudge for each bus of a Network."""
@@ -240,6 +244,15 @@ class Bench:
                 self.buses -= len(self.kept.pop(next(iter(self.kept))))
             self.kept[key] = [MachinesPart(values) for values in network.machine_values()]
         return self.kept[key]
+
+    def shares(self, network):
+        """The Shares of a Network, kept for a few networks since they take more space."""
+        key = machines_key(network)
+        if key not in self.shared:
+            while len(self.shared) >= SHARES_KEPT:
+                self.shared.pop(next(iter(self.shared)))
+            self.shared[key] = self.shares_class(network)
+        return self.shared[key]
 
 
 def machines_key(network):

@@ -1,4 +1,4 @@
-"""Document 01 once more, as plainly as it is written: fractions and recursion.
+"""Document 01 and order 3 once more, as plainly as they are written: fractions and recursion.
 
 The fractions are far too slow for large networks.  The self-test compares
 them with exact.py on small ones, and the same recursion in floating point on
@@ -57,6 +57,18 @@ def series(y):
     return found
 
 
+def table_factor(delay, tenths):
+    """μ of order 3 in thousandths, rounded up, e^(−y) being 1/T(y)."""
+    a, b, g = {
+        20: (F("0.84"), F("0.26"), F("0.26")),
+        50: (F("0.71"), F("0.51"), F("0.30")),
+        100: (F("0.62"), F("0.72"), F("0.32")),
+        250: (F("0.56"), F("0.94"), F("0.38")),
+    }[delay]
+    value = 1000 * (a + b / series(g * F(tenths, 10)))
+    return min(1000, least(lambda n: n >= value))
+
+
 class Complex:
     def __init__(self, re, im):
         self.re, self.im = F(re), F(im)
@@ -67,9 +79,11 @@ class Complex:
     def times(self, factor):
         return Complex(self.re * factor, self.im * factor)
 
+    def square(self):
+        return self.re**2 + self.im**2
+
     def inverse(self):
-        square = self.re**2 + self.im**2
-        return Complex(self.re / square, -self.im / square)
+        return Complex(self.re / self.square(), -self.im / self.square())
 
 
 def nearly(z):
@@ -79,6 +93,7 @@ def nearly(z):
 class PlainNetwork:
     def __init__(self, tolerance, buses, sources):
         self.tolerance, self.buses, self.sources = tolerance, buses, sources
+        self.near = {}
 
     def c(self, volts):
         return c(volts, self.tolerance)
@@ -130,18 +145,27 @@ class PlainNetwork:
             if source.bus == b and source.kind != CONVERTER
         ]
         for n in self.neighbours(b):
-            y = None if n == without else self.seen(n, b)
+            y = None if n == without else self.added(b, n)
             if y is not None:
-                squared = self.ratio(n, b) ** 2
-                z = self.branch(max(n, b))
-                z = z if b > n else z.times(squared)
-                parts.append((z + y.inverse().times(squared)).inverse())
+                parts.append(y)
         if not parts:
             return None
         return sum(parts[1:], parts[0])
 
+    def added(self, b, n):
+        """Admittance that the neighbour n adds at b, or None where no machine is behind it."""
+        y = self.seen(n, b)
+        if y is None:
+            return None
+        squared = self.ratio(n, b) ** 2
+        z = self.branch(max(n, b))
+        z = z if b > n else z.times(squared)
+        return (z + y.inverse().times(squared)).inverse()
+
     def seen_nearly(self, b, without=None):
-        """The same in floating point, 0 where no machine is."""
+        """The same in floating point, 0 where no machine is; what was found is kept."""
+        if (b, without) in self.near:
+            return self.near[b, without]
         found = 0j
         for source in self.sources:
             if source.bus == b and source.kind != CONVERTER:
@@ -152,6 +176,7 @@ class PlainNetwork:
                 squared = float(self.ratio(n, b)) ** 2
                 z = nearly(self.branch(max(n, b)))
                 found += 1 / ((z if b > n else z * squared) + squared / y)
+        self.near[b, without] = found
         return found
 
     def converters(self, b, without=None):
@@ -168,6 +193,58 @@ class PlainNetwork:
         z = self.seen(b).inverse()
         volts = self.buses[b].volts
         return (self.c(volts) * volts) ** 2 / (3 * (z.re**2 + z.im**2))
+
+    def way(self, b, end, without=None):
+        """The buses from b to the end, both included, or None where the end is not there."""
+        if b == end:
+            return [b]
+        for n in self.neighbours(b):
+            rest = None if n == without else self.way(n, end, b)
+            if rest:
+                return [b, *rest]
+        return None
+
+    def share_square(self, b, source):
+        """At each bus on the way the current divides as the admittances summed there."""
+        square, before = self.current_square(b), None
+        way = self.way(b, source.bus)
+        for at, n in zip(way, way[1:]):
+            square *= self.added(at, n).square() / self.seen(at, before).square()
+            before = at
+        own = self.machine(source).inverse()
+        return square * own.square() / self.seen(source.bus, before).square()
+
+    def share_nearly(self, b, source):
+        """In floating point and by another way: from the voltage at the fault the voltages
+        along the way, then the current through the machine; carried back, and as it is there."""
+        volts = self.buses[b].volts
+        voltage, back = float(self.c(volts)) * volts / 3**0.5, 1.0
+        way = self.way(b, source.bus)
+        for at, n in zip(way, way[1:]):
+            squared = float(self.ratio(n, at)) ** 2
+            z = nearly(self.branch(max(n, at))) * (1 if at > n else squared)
+            far = squared / self.seen_nearly(n, at)
+            voltage *= far / (z + far) * float(self.ratio(at, n))
+            back *= float(self.ratio(at, n))
+        current = abs(voltage / nearly(self.machine(source)))
+        return current * back, current
+
+    def q_square(self, b, source):
+        """At the generator's terminals; a current falls as the rated volts rise."""
+        square = self.share_square(b, source)
+        way = self.way(b, source.bus)
+        for left, arrived in zip(way, way[1:]):
+            square /= self.ratio(left, arrived) ** 2
+        rated, kva = source.fields[:2]
+        return square * 3 * F(rated, 1000 * kva) ** 2
+
+    def factor(self, b, source, delay):
+        """μ in thousandths."""
+        if source.kind != GENERATOR or self.q_square(b, source) <= 4:
+            return 1000
+        square = self.q_square(b, source)
+        tenths = 100 if square >= 100 else greatest(lambda n: F(n, 10) ** 2 <= square)
+        return table_factor(delay, tenths)
 
     def peak_square(self, b):
         z = self.seen(b).inverse()

@@ -4,7 +4,9 @@ python3 tests/judge/reference.py program < file.csv
 python3 tests/judge/reference.py console
 
 It serves to test run.py.  Bounds are the whole numbers next to the exact
-parts, peaks come from sixteen steps between the entries of the peak table.  --fault plants one of faults.py.
+parts and shares, peaks come from sixteen steps between the entries of the peak
+table, a breaking figure is the least whole number not below its sum.  --fault
+plants one of faults.py or breaking_faults.py.
 """
 
 import argparse
@@ -13,12 +15,14 @@ import sys
 from math import isqrt
 
 from accept import Study
-from calls import FILL, MOST_ROOM
+from breaking import BreakingJudge
+from calls import FILL, MOST_ROOM, MOST_TABLE, TABLE_FILL
 from exact import Network, peak_thousandths
 from judge import NO_AMPERES, Amperes, Bench, verdict
+from shares import RootSum, Shares
 
-CALL = re.compile(r"(start|bus|source|close|query|write)((?:,(?:0|[1-9][0-9]{0,9}))*)")
-COUNTS = {"start": 1, "bus": 10, "source": 7, "close": 0, "query": 1, "write": 1}
+CALL = re.compile(r"(start|bus|source|close|query|breaking|write)((?:,(?:0|[1-9][0-9]{0,9}))*)")
+COUNTS = {"start": 1, "bus": 10, "source": 7, "close": 0, "query": 1, "breaking": 3, "write": 1}
 READ = re.compile(r"read,((?:[0-9a-fA-F]{2})*)")
 TABLE = [peak_thousandths(i) for i in range(231)]
 
@@ -28,12 +32,15 @@ class StandIn:
 
     study_class = Study
     network_class = Network
+    shares_class = Shares
     benches = {}
 
     def __init__(self):
         self.study = self.study_class()
-        self.bench = self.benches.setdefault(self.network_class, Bench())
+        classes = self.network_class, self.shares_class
+        self.bench = self.benches.setdefault(classes, Bench(self.shares_class))
         self.worked_out = None, None
+        self.broken = None, {}
 
     # Amperes
 
@@ -73,6 +80,46 @@ class StandIn:
             judge.converters.peak_ceiling(),
         )
 
+    # Breaking
+
+    def breaking_judge(self, study, bus):
+        if self.broken[0] is not study:
+            self.broken = study, {}
+        if bus not in self.broken[1]:
+            network = self.network_class(study.tolerance, study.buses, study.sources)
+            self.broken[1][bus] = BreakingJudge(self.bench, network, bus)
+        return self.broken[1][bus]
+
+    def bounds(self, share):
+        return share.square.root_floor(), share.square.root_ceiling()
+
+    def thousandths(self, source, share, delay):
+        return share.thousandths(delay)
+
+    def terms(self, judge, delay):
+        """Pairs of μ in thousandths and a share's square, of each machine."""
+        pairs = [(source, share) for source, share in zip(judge.sources, judge.shares) if share]
+        return [(self.thousandths(*pair, delay), pair[1].square) for pair in pairs]
+
+    def converters(self, judge):
+        return judge.converters
+
+    def figure(self, judge, delay):
+        return RootSum(self.terms(judge, delay), self.converters(judge)).ceiling()
+
+    def breaking(self, bus, delay, table):
+        """Number and figure; the table is lent."""
+        number = self.study.breaking(bus, delay, len(table))
+        if number:
+            return number, 0
+        judge = self.breaking_judge(self.study, bus)
+        table[: 2 * len(judge.sources)] = [0] * (2 * len(judge.sources))
+        for place, share in judge.generators():
+            table[2 * place : 2 * place + 2] = self.bounds(share)
+        return 0, self.figure(judge, delay)
+
+    # The verdict
+
     def verdict(self, amperes, bus):
         return verdict(amperes, bus)
 
@@ -108,6 +155,8 @@ class StandIn:
     def answer_call(self, name, numbers):
         if name == "query":
             return self.answer_query(*numbers)
+        if name == "breaking":
+            return self.answer_breaking(*numbers)
         if name == "write":
             return self.answer_write(*numbers)
         if name == "close":
@@ -127,6 +176,12 @@ class StandIn:
             amperes = self.amperes(self.study, b)
             letter, margin = self.verdict(amperes, self.study.buses[b])
         return ",".join(map(str, (number, *amperes, letter, margin)))
+
+    def answer_breaking(self, bus, delay, room):
+        if room > MOST_TABLE:
+            return "error,room"
+        table = [TABLE_FILL] * room
+        return ",".join(map(str, (*self.breaking(bus, delay, table), *table)))
 
     def answer_write(self, room):
         if room > MOST_ROOM:
@@ -155,13 +210,15 @@ class InProcess:
 
 
 def main():
+    from breaking_faults import BREAKING_FAULTS
     from faults import FAULTS
 
+    faults = FAULTS | BREAKING_FAULTS
     parser = argparse.ArgumentParser(description=__doc__.splitlines()[0])
     parser.add_argument("role", choices=["program", "console"])
-    parser.add_argument("--fault", choices=sorted(FAULTS))
+    parser.add_argument("--fault", choices=sorted(faults))
     options = parser.parse_args()
-    stand_in = (FAULTS[options.fault] if options.fault else StandIn)()
+    stand_in = (faults[options.fault] if options.fault else StandIn)()
     if options.role == "program":
         sys.stdout.buffer.write(stand_in.program(sys.stdin.buffer.read()))
         return

@@ -1,11 +1,11 @@
 """Run the program and the console against the exact judge.
 
 python3 tests/judge/run.py --program target/bin/noldveig --console target/bin/console
-    --seed 1 --networks 200 --bytes 500 --calls 100 --writes 100
+    --seed 1 --networks 200 --bytes 500 --calls 100 --writes 100 --breakings 100
 
 The fixed set always runs; the seed adds drawn networks, broken texts, lists of
-calls, and studies that are written, read back and written again.  Give an
-empty --program or --console to leave that one out.
+calls, studies that are written, read back and written again, and networks asked
+for breaking currents.  Give an empty --program or --console to leave that one out.
 """
 
 import argparse
@@ -96,10 +96,14 @@ def report(tally):
     print(f"refused by ground: {grounds}")
     writes = ", ".join(f"{number}: {count}" for number, count in sorted(tally.writes.items()))
     print(f"writes by number: {writes}; read back and the same: {tally.read_back}")
+    breakings = ", ".join(f"{number}: {count}" for number, count in sorted(tally.breakings.items()))
+    print(f"breakings by number: {breakings}; shares judged: {tally.shares}")
     for figure, meaning in (
         ("width", "widest pair against its allowance of 2 A and a thousandth"),
         ("peak", "peak farthest above the least whole one, against 2 % and 4 A"),
         ("near", "machines' peak farthest above the least whole one, against 0.15 % and 1 A"),
+        ("share", "widest share's pair against its allowance of 2 A and a thousandth"),
+        ("figure", "breaking figure farthest above the least whole one, against 3 % and 4 A"),
     ):
         if figure in tally.worst:
             print(f"{meaning}: {tally.worst[figure]:.3f}")
@@ -122,6 +126,7 @@ def main(arguments=None):
     parser.add_argument("--bytes", type=int, default=300)
     parser.add_argument("--calls", type=int, default=60)
     parser.add_argument("--writes", type=int, default=60)
+    parser.add_argument("--breakings", type=int, default=60)
     parser.add_argument("--jobs", type=int, default=1)
     options = parser.parse_args(arguments)
     for command in (options.program, options.console):
@@ -130,7 +135,7 @@ def main(arguments=None):
     runner = Commands(options.program, options.console)
     begun = time.monotonic()
     units = fixed_units()
-    drawn = options.networks, options.bytes, options.calls, options.writes
+    drawn = options.networks, options.bytes, options.calls, options.writes, options.breakings
     units += drawn_units(options.seed, *drawn)
     tally, passed, failed = Tally(), 0, 0
     for unit_passed, failures, unit_tally in outcomes(runner, units, options.jobs):

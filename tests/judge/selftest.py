@@ -3,27 +3,32 @@
 Document 01's worked points, the sweeps against the plain definitions, the
 acceptance rules against meant numbers and against those of the edition before,
 a study's text against one typed by hand, and planted faults that the fixed set
-has to find.  Nothing of the product is run.
+has to find; the same for breaking currents.  Nothing of the product is run.
 """
 
 import sys
 import time
 from collections import Counter
 from fractions import Fraction
+from math import isqrt
 from random import Random
 
-from accept import BUSES_BEFORE, SOURCES_BEFORE, Study, StudyBefore
-from calls import as_calls, drawn_calls, line_of
-from cases import drawn_unit, fixed_units, run_unit
-from exact import f_millionths, peak_thousandths, series, sine, transformer_ux
+from accept import BUSES_BEFORE, DELAYS, SOURCES_BEFORE, Study, StudyBefore
+from breaking import BreakingJudge
+from breaking_faults import BREAKING_FAULTS
+from breakings import BROKEN, drawn_breakings, every_tenth, fixed_breakings, tuned
+from calls import as_calls, carried_out, drawn_calls, line_of
+from cases import Unit, breaking_case, breaking_units, drawn_unit, fixed_units, run_unit
+from exact import CONVERTER, GENERATOR, f_millionths, peak_thousandths, series, sine, transformer_ux
 from faults import FAULTS
 from fixed import fixed_networks, table_steps
 from judge import Amperes, Bench, peak_reasons, verdict
 from networks import FAMILIES, any_network, crowd, full_tree, random_tree
-from plain import PlainNetwork
+from plain import PlainNetwork, table_factor
 from reference import InProcess, StandIn
 from refusals import BASE, chain_rows, lone_bus, near_misses
 from run import Commands
+from shares import TABLES, RootSum, Square, compare_roots
 from texts import meant_texts, spoil
 from writes import WRITTEN, back_calls, first_calls, fixed_writings, longest_rows
 from writes import study_after, text_of, told_apart
@@ -368,6 +373,248 @@ def each_table_entry(tests):
     tests.same("table entries guarded", found, set(range(231)))
 
 
+# Order 3
+
+
+def breaking_judge(study, bus):
+    return BreakingJudge(BENCH, study.network(), bus)
+
+
+def worked_factors_of_q(tests):
+    """μ at q 2, 5 and 10, from the formulas by hand, and every entry by the plain rule."""
+    for delay, due in (
+        (20, (995, 911, 860)),
+        (50, (990, 824, 736)),
+        (100, (1000, 766, 650)),
+        (250, (1000, 701, 582)),
+    ):
+        tests.same(f"factors at {delay} ms", tuple(TABLES[delay][i] for i in (20, 50, 100)), due)
+        plain = [table_factor(delay, i) for i in range(101)]
+        tests.same(f"table at {delay} ms", TABLES[delay], plain)
+
+
+def worked_breaking(tests):
+    """The worked network with a converter: 11,000 V over √3 and 1.1 Ω of the feeder, 3.3 Ω of the
+    generator and its line at bus 0, q 10/3 there; 2.2 Ω each at bus 1, q 5."""
+    study = study_of(fixed_networks()[2][1])
+    for bus, ohms, tenths in ((0, ("1.1", "3.3"), 33), (1, ("2.2", "2.2"), 50)):
+        judge = breaking_judge(study, bus)
+        squares = [Fraction(11000) ** 2 / 3 / Fraction(z) ** 2 for z in ohms]
+        found = [Fraction(*share.square.fraction()) for share in judge.shares[:2]]
+        tests.same(f"shares at bus {bus}", found, squares)
+        tests.same(f"tenths at bus {bus}", judge.shares[1].tenths(), tenths)
+        tests.same(f"converters at bus {bus}", judge.converters, 200)
+        for delay in DELAYS:
+            near = 200 + float(squares[0]) ** 0.5 + TABLES[delay][tenths] / 1000 * float(squares[1]) ** 0.5
+            tests.same(f"figure at bus {bus}, {delay} ms", judge.sum(delay).ceiling(), int(near) + 1)
+
+
+def shares_against_plain(tests, count=40):
+    """Factors by branch against the division at each bus as it is written."""
+    for n in range(count):
+        rng = Random(f"shares {n}")
+        study = study_of(random_tree(rng, rng.randint(1, 6), rng.randint(1, 8)))
+        plain = PlainNetwork(study.tolerance, study.buses, study.sources)
+        for b in range(len(study.buses)):
+            judge = breaking_judge(study, b)
+            pairs = [pair for pair in zip(study.sources, judge.shares) if pair[1]]
+            found = [Fraction(*share.square.fraction()) for _, share in pairs]
+            due = [plain.share_square(b, source) for source, _ in pairs]
+            tests.same(f"shares of network {n} at {b}", found, due)
+            found = [Fraction(*share.q_square.fraction()) for _, share in pairs if share.q_square]
+            due = [plain.q_square(b, source) for source, share in pairs if share.q_square]
+            tests.same(f"q of network {n} at {b}", found, due)
+            for delay in DELAYS:
+                found = [share.thousandths(delay) for _, share in pairs]
+                due = [plain.factor(b, source, delay) for source, _ in pairs]
+                tests.same(f"factors of network {n} at {b}, {delay} ms", found, due)
+
+
+def shares_against_floats(tests):
+    """Large networks by voltages in floating point, some machines at some buses."""
+    for n, family in enumerate(FAMILIES):
+        study = study_of(family(Random(f"floats {n}")))
+        plain = PlainNetwork(study.tolerance, study.buses, study.sources)
+        for b in {0, len(study.buses) - 1}:
+            pairs = [pair for pair in zip(study.sources, breaking_judge(study, b).shares) if pair[1]]
+            for source, share in pairs[:: len(pairs) // 5 + 1]:
+                low, high = share.square.root_bounds()
+                near, _ = plain.share_nearly(b, source)
+                if near > 1e-9:
+                    same = abs(low / 2**128 / near - 1) < 1e-9 and high - low < low >> 64
+                    tests.true(f"{family.__name__}: share at {b} in floating point", same)
+
+
+class InFloats(StandIn):
+    """Breaking by floating point and voltages, with nothing of shares.py but the tables."""
+
+    margin = 1e-9
+    worked = None, None
+
+    def plain(self, study):
+        if self.worked[0] is not study:
+            self.worked = study, PlainNetwork(study.tolerance, study.buses, study.sources)
+        return self.worked[1]
+
+    def factor(self, source, current, delay):
+        if source.kind != GENERATOR:
+            return 1.0
+        volts, kva = source.fields[:2]
+        q = current * 3**0.5 * volts / (1000 * kva)
+        if q <= 2 * (1 + self.margin):
+            return 1.0
+        return TABLES[delay][min(100, int(10 * q * (1 - self.margin)))] / 1000
+
+    def breaking(self, bus, delay, table):
+        number = self.study.breaking(bus, delay, len(table))
+        if number:
+            return number, 0
+        plain = self.plain(self.study)
+        figure = float(plain.converters(bus))
+        for place, source in enumerate(self.study.sources):
+            table[2 * place : 2 * place + 2] = 0, 0
+            if source.kind != CONVERTER:
+                share, current = plain.share_nearly(bus, source)
+                figure += share * self.factor(source, current, delay)
+                if source.kind == GENERATOR:
+                    bounds = int(share * (1 - self.margin)), int(share * (1 + self.margin)) + 1
+                    table[2 * place : 2 * place + 2] = bounds
+        return 0, int(figure * (1 + self.margin)) + 1
+
+
+def floats_accepted(tests):
+    """A calculation that shares nothing with the judge is not blamed."""
+    small = [plan for plan in fixed_breakings() if len(plan.draft.buses) <= 40 >= plan.draft.sources]
+    units = [breaking_units()[0], Unit([breaking_case(plan) for plan in small])]
+    units.append(drawn_unit("breakings", 3, range(25)))
+    for unit in units:
+        outcome = run_unit(InProcess(InFloats), unit, BENCH)
+        for failure in outcome.failures:
+            print(f"{failure.name}: {failure.reason}")
+        tests.true("floating point accepted", outcome.passed and not outcome.failures)
+
+
+def two_reached(tests):
+    """Of each three plans with q about 2 the first is above, the second at it and the third below."""
+    plans = [plan for plan in fixed_breakings() if plan.name.startswith("q of 2")]
+    signs = []
+    for plan in plans:
+        study = study_of(plan.draft)
+        place = next(i for i, source in enumerate(study.sources) if source.kind == GENERATOR)
+        signs.append(breaking_judge(study, 0).shares[place].q_square.compare(4))
+    tests.same("q about 2", signs, [-1, 0, 1] * 4)
+
+
+def sums_of_roots(tests):
+    """Comparisons that the first enclosure cannot tell, and sums that are fractions."""
+    for n, due in ((5, 0), (Fraction(5) - Fraction(1, 10**300), -1), (Fraction(5) + Fraction(1, 10**300), 1)):
+        tests.same(f"2 + 3 against {float(n)}", compare_roots(n, [(1, 4, 1), (1, 27, 3)]), due)
+    for digits in (10, 100, 1000):
+        scale = 10**digits
+        floor = isqrt(2 * scale**2) + isqrt(3 * scale**2)
+        terms = [(1, 2, 1), (1, 3, 1)]
+        for step, due in ((0, -1), (2, 1)):
+            given = compare_roots(Fraction(floor + step, scale), terms)
+            tests.same(f"root 2 + root 3 to {digits} digits, {step:+}", given, due)
+    whole = RootSum([(500, Square(16, 1)), (1000, Square(75, 3)), (0, Square(2, 1))], Fraction(1, 2))
+    beside = Fraction(1, 9**99)
+    signs = [whole.compare(Fraction(15, 2) + step * beside) for step in (-1, 0, 1)]
+    tests.same("half of 4, 5 and a half", (signs, whole.ceiling()), ([-1, 0, 1], 8))
+
+
+def squares_compared(tests):
+    """A product of fractions beside whole numbers, by its enclosure and by the whole."""
+    rng = Random(3)
+    for n in range(200):
+        parts = [(rng.getrandbits(300) | 1, rng.getrandbits(300) | 1) for _ in range(rng.randint(1, 9))]
+        if n % 4 == 0:
+            parts += [(bottom * rng.randint(1, 99), top) for top, bottom in parts]
+        square, exact = None, Fraction(1)
+        for top, bottom in parts:
+            square = square.times(top, bottom) if square else Square(top, bottom)
+            exact *= Fraction(top, bottom)
+        floor = int(exact)
+        due = [(m > exact) - (m < exact) for m in (floor, floor + 1)]
+        tests.same(f"product {n}", [square.compare(m) for m in (floor, floor + 1)], due)
+        root = isqrt(floor)
+        above = root + (root * root != exact)
+        tests.same(f"root of product {n}", (square.root_floor(), square.root_ceiling()), (root, above))
+
+
+def breaking_borders(tests):
+    """Width, enclosure and figure at their very borders, in the worked network at bus 0."""
+    judge = breaking_judge(study_of(fixed_networks()[2][1]), 0)
+    right = [0, 0, 1924, 1925, 0, 0]
+    tests.same("tight breaking", judge.reasons(20, 7804, right), [])
+    most = int(judge.sum(20).beneath() * 103 / 100 + 4)
+    for figure, table, words in (
+        (7803, {}, "below the sum"),
+        (most, {}, ""),
+        (most + 1, {}, "above the sum"),
+        (2**53, {}, "2^53"),
+        (7804, {2: 1925}, "above the exact share"),
+        (7804, {3: 1924}, "below the exact share"),
+        (7804, {3: 1927}, ""),
+        (7804, {3: 1928}, "wider"),
+        (7804, {2: 1922}, ""),
+        (7804, {2: 1921}, "wider"),
+        (7804, {3: 2**53}, "2^53"),
+        (7804, {0: 1}, "0 and 0"),
+        (7804, {5: 1}, "0 and 0"),
+    ):
+        given = [table.get(place, number) for place, number in enumerate(right)]
+        reasons = "; ".join(judge.reasons(20, figure, given))
+        tests.true(f"{figure}, {table}: {reasons}", words in reasons if words else not reasons)
+
+
+def each_factor(tests):
+    """Any single entry of the four tables from q 2 on one too low is found by the tenths."""
+    found = {delay: set() for delay in DELAYS}
+    for plan in (every_tenth(0), every_tenth(1)):
+        study = study_of(plan.draft)
+        for bus in range(1, len(study.buses)):
+            judge = breaking_judge(study, bus)
+            share = judge.shares[bus]
+            if share.q_square.compare(4) < 0:
+                for delay in DELAYS:
+                    terms = [(s.thousandths(delay) - (s is share), s.square) for s in judge.shares]
+                    if judge.figure_reasons(delay, RootSum(terms, 0).ceiling()):
+                        found[delay].add(share.tenths())
+    for delay in DELAYS:
+        tests.same(f"entries guarded at {delay} ms", found[delay], set(range(20, 101)))
+
+
+def drawn_near(tests, count=200):
+    """What is drawn for breaking lies at the borders as a matter of course."""
+    pairs = sum(len(tuned(Random(f"near {n}"))[1]) == 2 for n in range(count))
+    numbers = Counter()
+    for n in range(count):
+        study = Study()
+        for name, *rest in drawn_breakings(Random(f"near {n}")):
+            if name == "breaking":
+                numbers[study.breaking(*rest)] += 1
+            else:
+                study = carried_out(study, (name, *rest))[1]
+    met = ", ".join(f"{number}: {numbers[number]}" for number in sorted(numbers))
+    print(f"of {count} generators tuned {pairs} have q on both sides of a tenth")
+    print(f"breakings drawn by number: {met}")
+    tests.true("one in three is tuned", 3 * pairs >= count)
+    tests.same("grounds of a breaking drawn", set(numbers), {0, 15, 22, 30, 31})
+
+
+def timing_of_breaking(tests):
+    for plan in fixed_breakings():
+        if plan.name in ("machines of all kinds", "full_tree 1"):
+            study = study_of(plan.draft)
+            begun = time.monotonic()
+            judge = BreakingJudge(Bench(), study.network(), len(study.buses) - 1)
+            figures = [judge.sum(delay).ceiling() for delay in DELAYS]
+            took = time.monotonic() - begun
+            size = f"{len(study.buses)} buses, {len(study.sources)} sources"
+            print(f"{plan.name}, {size}: a bus's shares and four figures in {1000 * took:.0f} ms")
+            tests.true(f"{plan.name} judged", sorted(figures, reverse=True) == figures)
+
+
 def timing(tests):
     for family in (full_tree, crowd):
         study = study_of(family(Random(5)))
@@ -389,10 +636,11 @@ def by_processes(tests):
     here = __file__.rpartition("/")[0] or "."
     commands = [f"{sys.executable} {here}/reference.py {role}" for role in ("program", "console")]
     units = fixed_units()
-    for unit in (*units[:3], units[5], units[-1], ("writes", 2, range(3))):
+    drawn = ("writes", 2, range(3)), ("breakings", 2, range(3))
+    for unit in (*units[:3], units[5], units[-1], *breaking_units()[:2], *drawn):
         outcome = run_unit(Commands(*commands), unit, BENCH)
         tests.true("stand-in by processes", outcome.passed and not outcome.failures)
-    for unit in (units[5], ("writes", 2, range(3))):
+    for unit in (units[5], *drawn):
         outcome = run_unit(Commands("true", "true"), unit, BENCH)
         tests.true("silent programs", outcome.failures and not outcome.passed)
 
@@ -402,6 +650,7 @@ def planted_faults(tests):
     units = fixed_units()
     drawn = [drawn_unit("bytes", 1, range(50)), drawn_unit("calls", 1, range(5))]
     drawn.append(drawn_unit("writes", 1, range(20)))
+    drawn.append(drawn_unit("breakings", 1, range(20)))
     refused, failing = set(), set()
     for unit in units + drawn:
         outcome = run_unit(InProcess(StandIn), unit, BENCH)
@@ -409,10 +658,13 @@ def planted_faults(tests):
         for failure in outcome.failures:
             print(f"{failure.name}: {failure.reason}")
         tests.true("no fault planted", outcome.passed and not outcome.failures)
-    tests.same("grounds met", refused, set(range(1, 17)) | set(range(21, 26)) | {30})
-    for name, stand_in in FAULTS.items():
+    tests.same("grounds met", refused, set(range(1, 17)) | set(range(21, 26)) | {30, 31})
+    breakings = breaking_units()
+    tried = [(*fault, units) for fault in FAULTS.items()]
+    tried += [(*fault, breakings) for fault in BREAKING_FAULTS.items()]
+    for name, stand_in, among in tried:
         found = None
-        for unit in units:
+        for unit in among:
             found = found or run_unit(InProcess(stand_in), unit, BENCH).failures
             if found:
                 break
@@ -420,7 +672,7 @@ def planted_faults(tests):
         if found:
             failing |= {failure.name for failure in found}
             print(f"planted fault: {name}; found by: {found[0].name}; {len(found)} in its unit")
-    for make in WRITTEN:
+    for make in WRITTEN + BROKEN:
         tests.true(f"some fault fails {make.__name__}", f"calls: {make.__name__}" in failing)
 
 
@@ -440,6 +692,18 @@ def main():
     refused_calls(tests)
     judge_borders(tests)
     each_table_entry(tests)
+    worked_factors_of_q(tests)
+    worked_breaking(tests)
+    shares_against_plain(tests)
+    shares_against_floats(tests)
+    floats_accepted(tests)
+    two_reached(tests)
+    sums_of_roots(tests)
+    squares_compared(tests)
+    breaking_borders(tests)
+    each_factor(tests)
+    drawn_near(tests)
+    timing_of_breaking(tests)
     timing(tests)
     by_processes(tests)
     planted_faults(tests)

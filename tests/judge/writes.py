@@ -15,7 +15,7 @@ from networks import amount, any_network
 from refusals import BASE, record_misses
 from texts import SMALL, TEXT
 
-KEEPS = ("query", "write", "other")
+KEEPS = ("query", "breaking", "write", "other")
 ACCEPTED = re.compile(r"0,(0|[1-9][0-9]{0,9}),((?:[0-9a-f]{2})*)")
 
 
