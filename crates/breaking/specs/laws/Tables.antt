@@ -1,12 +1,15 @@
--- How large the parts of a table of shares are for any study, so that no step of the code overflows. Assumes nothing.
+-- The table of shares and the sum of steps, as the code makes them: how large its parts are for any study, so that no step overflows, and
+-- how it is laid source by source. Assumes nothing.
 use Prim.Native.Nat.{ℕ, zero, suc, _+_, _*_, _/_, _^_, min, _≤_, _<_}
-use mathlib.Core.Path.{_≡_, refl}
+use mathlib.Core.Path.{_≡_, refl, _∙_, ap}
 use mathlib.Core.Bool.{Bool, true, false, cond}
-use mathlib.Core.List.{List, [], _∷_}
+use mathlib.Core.List.{List, [], _∷_, _++_}
 use native.Mathlib.Omega.{arith}
+use native.Mathlib.Numerals.{add-one}
 use native.Mathlib.Nat.{le-refl, le-trans, mul-le-mul}
 use lib.Dec.{leb, lit≤}
-use lib.ListN.{length}
+use lib.ListN.{length, take, set, length-take}
+use lib.Seq.{take-suc, take-all, sets, sets-eq}
 use lib.Ieee.{Float}
 use Rattle.enclosure.specs.Doubles.{nought, underRoot, rootFine}
 use Rattle.enclosure.specs.laws.Climb.{root-small}
@@ -15,9 +18,12 @@ use Rattle.elements.specs.Doubles.{muBy}
 use Rattle.elements.specs.laws.BreakingFactor.{mu-most}
 use Rattle.tree.specs.Ways.{shareSteps, ratedSteps}
 use Rattle.network.specs.declared.study.Source.{Source}
+use Rattle.network.specs.Network.{sourceAt, blankSource}
+use Rattle.network.specs.laws.Arrays.{sets-append}
 use Rattle.network.specs.SourceKinds.{isGenerator, isConverter}
 use Rattle.breaking.specs.declared.parts.Part.{Part}
-use Rattle.breaking.specs.Doubles.{weighed, generatorPart, partBy, partOf, stepsFrom}
+use Rattle.breaking.specs.Breaking.{laidOver}
+use Rattle.breaking.specs.Doubles.{weighed, generatorPart, partBy, partOf, tableOf, stepsFrom}
 
 pub root-fine-few : (x : Float) → rootFine x < 2 ^ 53
 unfolding rootFine
@@ -57,3 +63,38 @@ part-of-few tolerance delay drive volts ratios dividers p = part-few delay _ _ _
 pub steps-few : (part : Source → Part) → ((p : Source) → part p .steps ≤ 2 ^ 53) → (total : ℕ) (l : List Source) → stepsFrom part total l ≤ total + 2 ^ 53 * length l
 steps-few part h total [] = omega arith
 steps-few part h total (p ∷ l) = le-trans (steps-few part h (total + part p .steps) l) (omega (arith, h p))
+
+-- ---- as a loop lays the table, one source after the other
+pub table-length : (part : Source → Part) (l : List Source) → length (tableOf part l) ≡ 2 * length l
+table-length part [] = refl
+table-length part (p ∷ l) = omega (arith, table-length part l)
+
+table-append : (part : Source → Part) (l : List Source) (p : Source) → tableOf part (l ++ (p ∷ [])) ≡ tableOf part l ++ (part p .lower ∷ part p .upper ∷ [])
+table-append part [] p = refl
+table-append part (q ∷ l) p = ap (λ (t : List Float). part q .lower ∷ part q .upper ∷ t) (table-append part l p)
+
+steps-append : (part : Source → Part) (total : ℕ) (l : List Source) (p : Source) → stepsFrom part total (l ++ (p ∷ [])) ≡ stepsFrom part total l + part p .steps
+steps-append part total [] p = refl
+steps-append part total (q ∷ l) p = steps-append part (total + part q .steps) l p
+
+module _ (part : Source → Part) (l : List Source) (j : ℕ) (h : j < length l) (p : Source) (e : p ≡ sourceAt l j) where
+  next-source : take (j + 1) l ≡ take j l ++ (p ∷ [])
+  next-source = rw (add-one j, e) (take-suc l j blankSource h)
+
+  pub table-more : (lent table : List Float) → table ≡ sets lent 0 (tableOf part (take j l))
+      → set (set table (2 * j) (part p .lower)) (2 * j + 1) (part p .upper) ≡ sets lent 0 (tableOf part (take (j + 1) l))
+  table-more lent table q =
+      let t = tableOf part (take j l) in
+      let n : 0 + length t ≡ 2 * j = omega (arith, table-length part (take j l), length-take j l) in
+      rw (next-source, table-append part (take j l) p, sets-append lent 0 t (part p .lower ∷ part p .upper ∷ []), n, ← q, ← add-one (2 * j))
+
+  pub steps-more : (steps : ℕ) → steps ≡ stepsFrom part 0 (take j l) → steps + part p .steps ≡ stepsFrom part 0 (take (j + 1) l)
+  steps-more steps q = rw (next-source, steps-append part 0 (take j l) p, ← q)
+
+-- all of them laid
+pub table-all : (part : Source → Part) (l : List Source) (j : ℕ) (lent table : List Float) → length l ≤ j → 2 * length l ≤ length lent → table ≡ sets lent 0 (tableOf part (take j l))
+    → table ≡ laidOver (tableOf part l) lent
+table-all part l j lent table m room q =
+    let n : 0 + length (tableOf part l) ≤ length lent = omega (arith, table-length part l) in
+    let z : 0 + length (tableOf part l) ≡ length (tableOf part l) = omega arith in
+    q ∙ rw (take-all j l m) (sets-eq (tableOf part l) lent 0 n ∙ rw z)

@@ -6,6 +6,7 @@ use Prim.Native.Nat.{ℕ, suc, _+_, _≤_}
 use native.Mathlib.Omega.{arith}
 use native.Mathlib.Numerals.{add-one}
 use lib.ListN.{length, set, drop, length-append}
+use Rattle.network.specs.laws.Arrays.{sets-append}
 use lib.Seq.{sets, sets-eq, length-sets, set-comm}
 
 -- its bytes, and the place where the next goes
@@ -17,10 +18,6 @@ unfoldable pub laid : Placed → List ℕ → Placed
 laid f text = (sets (f .0) (f .1) text, f .1 + length text)
 
 -- ---- a text after another
-sets-append : (l : List ℕ) (at : ℕ) (xs ys : List ℕ) → sets l at (xs ++ ys) ≡ sets (sets l at xs) (at + length xs) ys
-sets-append l at [] ys = let e : at + 0 ≡ at = omega arith in rw e
-sets-append l at (x ∷ xs) ys = let e : suc at + length xs ≡ at + suc (length xs) = omega arith in sets-append (set l at x) (suc at) xs ys ∙ rw e
-
 laid-append : (f : Placed) (xs ys : List ℕ) → laid f (xs ++ ys) ≡ laid (laid f xs) ys
 unfolding laid
 laid-append f xs ys = let e : f .1 + length (xs ++ ys) ≡ f .1 + length xs + length ys = omega (arith, length-append xs ys) in rw (sets-append (f .0) (f .1) xs ys, e)

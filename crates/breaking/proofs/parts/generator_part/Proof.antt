@@ -1,3 +1,4 @@
+use native.Mathlib.Omega.{arith}
 -- `generator_part` calculates its definition. Assumes nothing.
 use Prim.Native.Nat.{_/_, _^_, _≤_, _<_}
 use lib.Dec.{le→leb}
