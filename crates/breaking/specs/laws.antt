@@ -1,1 +1,3 @@
 pub mod Tables
+pub mod Amperes
+pub mod Laid
