@@ -1,3 +1,5 @@
 pub mod Tables
 pub mod Amperes
 pub mod Laid
+pub mod Sources
+pub mod Promise

@@ -1,5 +1,5 @@
--- Whole amperes from steps of 1/4,096 A: the two numbers of a generator in the table bound its share, and a weight in the table of factors
--- is no less than the exact one. Assumes nothing.
+-- Whole amperes from steps of 1/4,096 A: the two numbers that a generator has in the table bound its share, and are near each other.
+-- Assumes nothing.
 use Prim.Native.Nat.{ℕ, _+_, _*_, _/_, _^_, _≤_, _<_}
 use mathlib.Core.Path.{refl}
 use mathlib.Core.List.{[], _∷_}
@@ -7,7 +7,7 @@ use native.Mathlib.Omega.{arith}
 use native.Mathlib.Nat.{mul-le-mul}
 use lib.Dec.{lit<}
 use Rattle.algebra.specs.Reading.{from-over, read, _⊹_, _⋆_}
-use Rattle.enclosure.specs.Fraction.{Fraction, Most, whole}
+use Rattle.enclosure.specs.Fraction.{Fraction}
 use Rattle.enclosure.specs.Doubles.{underRoot}
 use Rattle.enclosure.specs.laws.RootBounds.{RootHolds}
 use Rattle.network.specs.Demand.{Narrow}
