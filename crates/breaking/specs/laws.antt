@@ -1,2 +1,6 @@
 pub mod Numbers
 pub mod Tables
+pub mod Amperes
+pub mod Laid
+pub mod Sources
+pub mod Promise

@@ -1,0 +1,67 @@
+-- What stands where in the table that is laid over a lent one, and the sum of the steps by places. Assumes nothing.
+use Prim.Native.Nat.{ℕ, zero, suc, _+_, _*_, _≤_, _<_}
+use mathlib.Core.Path.{_≡_, refl, sym, _∙_, ap}
+use mathlib.Core.List.{List, [], _∷_, _++_}
+use native.Mathlib.Omega.{arith}
+use lib.Ieee.{Float, nan}
+use lib.ListN.{length, getD, drop, length-append, length-drop, List·getD-append}
+use Rattle.enclosure.specs.laws.FigureSums.{sumOf}
+use Rattle.network.specs.declared.study.Source.{Source}
+use Rattle.network.specs.Network.{sourceAt}
+use Rattle.breaking.specs.declared.parts.Part.{Part}
+use Rattle.breaking.specs.Breaking.{laidOver}
+use Rattle.breaking.specs.Doubles.{tableOf, stepsFrom}
+
+-- ---- the table of a list of sources
+pub length-table : (part : Source → Part) (l : List Source) → length (tableOf part l) ≡ 2 * length l
+length-table part [] = refl
+length-table part (p ∷ l) = omega (arith, length-table part l)
+
+lower-at : (part : Source → Part) (l : List Source) (j : ℕ) → j < length l → getD (tableOf part l) (2 * j) nan ≡ part (sourceAt l j) .lower
+lower-at part [] j h = absurd (omega arith)
+lower-at part (p ∷ l) zero h = refl
+lower-at part (p ∷ l) (suc j) h = let e : 2 * suc j ≡ suc (suc (2 * j)) = omega arith in rw e (lower-at part l j (omega arith))
+
+upper-at : (part : Source → Part) (l : List Source) (j : ℕ) → j < length l → getD (tableOf part l) (2 * j + 1) nan ≡ part (sourceAt l j) .upper
+upper-at part [] j h = absurd (omega arith)
+upper-at part (p ∷ l) zero h = refl
+upper-at part (p ∷ l) (suc j) h = let e : 2 * suc j + 1 ≡ suc (suc (2 * j + 1)) = omega arith in rw e (upper-at part l j (omega arith))
+
+-- ---- laid over a lent table with room for it
+drop-first : (l m : List Float) → drop (length l) (l ++ m) ≡ m
+drop-first [] m = refl
+drop-first (x ∷ l) m = drop-first l m
+
+module _ (part : Source → Part) (l : List Source) (lent : List Float) (room : 2 * length l ≤ length lent) where
+  abbrev laid : List Float
+  laid = laidOver (tableOf part l) lent
+
+  pub laid-lower : (j : ℕ) → j < length l → getD laid (2 * j) nan ≡ part (sourceAt l j) .lower
+  laid-lower j h = List·getD-append (tableOf part l) _ nan (2 * j) (omega (arith, length-table part l)) ∙ lower-at part l j h
+
+  pub laid-upper : (j : ℕ) → j < length l → getD laid (2 * j + 1) nan ≡ part (sourceAt l j) .upper
+  laid-upper j h = List·getD-append (tableOf part l) _ nan (2 * j + 1) (omega (arith, length-table part l)) ∙ upper-at part l j h
+
+  pub laid-length : length laid ≡ length lent
+  laid-length = length-append (tableOf part l) _ ∙ omega (arith, length-drop (length (tableOf part l)) lent, length-table part l)
+
+  pub laid-beyond : drop (2 * length l) laid ≡ drop (2 * length l) lent
+  laid-beyond =
+      ap (λ (k : ℕ). drop k laid) (sym (length-table part l)) ∙ drop-first (tableOf part l) _ ∙ ap (λ (k : ℕ). drop k lent) (length-table part l)
+
+-- ---- the sum of the steps
+sum-first : (m : ℕ) (g : ℕ → ℕ) → sumOf (suc m) g ≡ g 0 + sumOf m (λ j. g (suc j))
+sum-first zero g = omega arith
+sum-first (suc m) g = omega (arith, sum-first m g)
+
+pub sum-same : (m : ℕ) (f g : ℕ → ℕ) → ((j : ℕ) → j < m → f j ≡ g j) → sumOf m f ≡ sumOf m g
+sum-same zero f g h = refl
+sum-same (suc m) f g h = omega (arith, sum-same m f g (λ j l. h j (omega arith)), h m (omega arith))
+
+steps-more : (part : Source → Part) (total : ℕ) (l : List Source) → stepsFrom part total l ≡ total + sumOf (length l) (λ j. part (sourceAt l j) .steps)
+steps-more part total [] = omega arith
+steps-more part total (p ∷ l) =
+    steps-more part (total + part p .steps) l ∙ omega (arith, sum-first (length l) (λ j. part (sourceAt (p ∷ l) j) .steps))
+
+pub steps-sum : (part : Source → Part) (l : List Source) → stepsFrom part 0 l ≡ sumOf (length l) (λ j. part (sourceAt l j) .steps)
+steps-sum part l = steps-more part 0 l ∙ omega arith
