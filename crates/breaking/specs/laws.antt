@@ -1,5 +1,6 @@
 pub mod Numbers
 pub mod Tables
+pub mod FigureSums
 pub mod Amperes
 pub mod Laid
 pub mod Sources

@@ -3,6 +3,7 @@ ghost use mathlib.Core.Path.{_≡_};
 ghost use Prim.Native.Nat.{_≤_};
 ghost use lib.ListN.{length};
 ghost use Rattle.elements.specs.BreakingFactor.{delayOk};
+ghost use Rattle.tree.specs.Limits.{maxSources};
 ghost use Rattle.network.specs.Network.{network};
 ghost use Rattle.breaking.specs.Breaking.{breakingNumber, figureAfter, tableAfter};
 ghost use Rattle.breaking.specs.Doubles.{numberAfter, partAt, tableOf, figureAt};
@@ -35,7 +36,7 @@ fn delay_ok(delay: u32) -> bool
 
 // The ground on which the call is refused, 0 where it is accepted: that of a query, then the delay, then the room of the table.
 fn number_after(found: u32, delay: u32, total: usize, room: usize) -> u32
-    requires { ⌜ total ≤ 512 ⌝ }
+    requires { ⌜ total ≤ maxSources ⌝ }
     ensures { λ r. ⌜ r ≡ numberAfter found delay total room ⌝ }
 {
     if found != 0 {

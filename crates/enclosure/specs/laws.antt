@@ -17,4 +17,3 @@ pub mod WholeF64
 pub mod Scalar
 pub mod RootBounds
 pub mod Magnitudes
-pub mod FigureSums

@@ -1,4 +1,4 @@
--- Arrays that a loop fills: record by record, by adding up what stands at each bus, and row by row.
+-- Arrays that a loop fills: record by record, and by adding up what stands at each bus.
 use mathlib.Core.Path.{_≡_, refl, sym, _∙_, ap, ap₂}
 use mathlib.Core.Bool.{Bool, true, false, cond, _&&_}
 use mathlib.Core.List.{List, []}
@@ -8,14 +8,12 @@ use lib.Dec.{eqb, ltb}
 use lib.Ieee.{Float, nan}
 use lib.ListN.{length, take, set, getD, replicate, length-take, length-set, length-replicate, getD-replicate, List·getD-eq-default}
 use lib.Seq.{take-all, getD-take, getD-set-same, getD-set-other}
-use borrow.Author.Tests.{eqb-true, eqb-false, eq-eqb, ltb-true, ltb-false, lt-ltb, le-ltb}
+use borrow.Author.Tests.{eqb-true, eqb-false, eq-eqb, ltb-true, ltb-false, lt-ltb}
 use Rattle.enclosure.specs.declared.Complex.{Complex}
 use Rattle.enclosure.specs.Doubles.{nought, none, added}
 use Rattle.tree.specs.Grid.{sumOf}
 use Rattle.tree.specs.laws.Sums.{sum-more}
-use Rattle.network.specs.declared.query.Found.{Found}
 use Rattle.tree.specs.Limits.{maxBuses}
-use Rattle.network.specs.Query.{refusedBy}
 use Rattle.sweep.specs.Columns.{column}
 use Rattle.sweep.specs.Points.{pointAt, points, pointsOf}
 use Rattle.sweep.specs.laws.Columns.{column-only, points-only, put-same, put-other}
@@ -113,30 +111,3 @@ module _ {S : Type 0} (bus : S → ℕ) (counts : S → Bool) (gives : S → Com
         go b r true true x y =
             let w : ltb (bus p) maxBuses ≡ true = rw (eqb-true (bus p) b y) (lt-ltb b maxBuses r) in
             rw (w, x) at q
-
--- ---- rows: f of each bus below b, and the refusal of a bus that is not there at every other place
-abbrev pub Answered : ℕ → (ℕ → Found) → List Found → Type 0
-Answered b f rows = (length rows ≡ maxBuses) × ((k : ℕ) → k < maxBuses → getD rows k (refusedBy 15) ≡ cond (ltb k b) (f k) (refusedBy 15))
-
-module _ (f : ℕ → Found) where
-  pub answered-none : (rows : List Found) → rows ≡ replicate maxBuses (refusedBy 15) → Answered 0 f rows
-  answered-none rows e = rw e (length-replicate maxBuses (refusedBy 15), λ k l. getD-replicate maxBuses k (refusedBy 15) (refusedBy 15) l ∙ sym (rw (le-ltb k 0 (omega arith))))
-
-  pub answered-more : (rows : List Found) (b : ℕ) (r : Found) → b < maxBuses → r ≡ f b → Answered b f rows → Answered (b + 1) f (set rows b r)
-  answered-more rows b r l e h = (length-set rows b r ∙ h .0, λ k m. go k m (eqb k b) refl)
-    where
-      go : (k : ℕ) → k < maxBuses → (t : Bool) → eqb k b ≡ t → getD (set rows b r) k (refusedBy 15) ≡ cond (ltb k (b + 1)) (f k) (refusedBy 15)
-      go k m true q = rw (eqb-true k b q, lt-ltb b (b + 1) (omega arith)) (getD-set-same rows b r (refusedBy 15) (omega (arith, h .0)) ∙ e)
-      go k m false q =
-          let d = eqb-false k b q in
-          getD-set-other rows b k r (refusedBy 15) d ∙ h .1 k m ∙ ap (λ (t : Bool). cond t (f k) (refusedBy 15)) (same k d)
-        where
-          same : (k : ℕ) → (k ≡ b → ⊥) → ltb k b ≡ ltb k (b + 1)
-          same k d = on (ltb k b) refl
-            where
-              on : (t : Bool) → ltb k b ≡ t → t ≡ ltb k (b + 1)
-              on true p = sym (lt-ltb k (b + 1) (omega (arith, ltb-true k b p)))
-              on false p = sym (le-ltb k (b + 1) (omega (arith, ltb-false k b p, d)))
-
-  pub answered-all : (rows : List Found) (b : ℕ) → Answered b f rows → rows ≡ column (λ k. cond (ltb k b) (f k) (refusedBy 15))
-  answered-all rows b h = column-only (λ k. cond (ltb k b) (f k) (refusedBy 15)) (refusedBy 15) rows (h .0) (h .1)

@@ -5,18 +5,15 @@ use mathlib.Core.List.{List, [], _∷_, _++_}
 use native.Mathlib.Omega.{arith}
 use lib.Ieee.{Float, nan}
 use lib.ListN.{length, getD, drop, length-append, length-drop, List·getD-append}
-use Rattle.enclosure.specs.laws.FigureSums.{sumOf}
+use Rattle.breaking.specs.laws.FigureSums.{sumOf}
 use Rattle.network.specs.declared.study.Source.{Source}
 use Rattle.network.specs.Network.{sourceAt}
 use Rattle.breaking.specs.declared.parts.Part.{Part}
 use Rattle.breaking.specs.Breaking.{laidOver}
 use Rattle.breaking.specs.Doubles.{tableOf, stepsFrom}
+use Rattle.breaking.specs.laws.Tables.{table-length}
 
 -- ---- the table of a list of sources
-pub length-table : (part : Source → Part) (l : List Source) → length (tableOf part l) ≡ 2 * length l
-length-table part [] = refl
-length-table part (p ∷ l) = omega (arith, length-table part l)
-
 lower-at : (part : Source → Part) (l : List Source) (j : ℕ) → j < length l → getD (tableOf part l) (2 * j) nan ≡ part (sourceAt l j) .lower
 lower-at part [] j h = absurd (omega arith)
 lower-at part (p ∷ l) zero h = refl
@@ -37,17 +34,17 @@ module _ (part : Source → Part) (l : List Source) (lent : List Float) (room : 
   laid = laidOver (tableOf part l) lent
 
   pub laid-lower : (j : ℕ) → j < length l → getD laid (2 * j) nan ≡ part (sourceAt l j) .lower
-  laid-lower j h = List·getD-append (tableOf part l) _ nan (2 * j) (omega (arith, length-table part l)) ∙ lower-at part l j h
+  laid-lower j h = List·getD-append (tableOf part l) _ nan (2 * j) (omega (arith, table-length part l)) ∙ lower-at part l j h
 
   pub laid-upper : (j : ℕ) → j < length l → getD laid (2 * j + 1) nan ≡ part (sourceAt l j) .upper
-  laid-upper j h = List·getD-append (tableOf part l) _ nan (2 * j + 1) (omega (arith, length-table part l)) ∙ upper-at part l j h
+  laid-upper j h = List·getD-append (tableOf part l) _ nan (2 * j + 1) (omega (arith, table-length part l)) ∙ upper-at part l j h
 
   pub laid-length : length laid ≡ length lent
-  laid-length = length-append (tableOf part l) _ ∙ omega (arith, length-drop (length (tableOf part l)) lent, length-table part l)
+  laid-length = length-append (tableOf part l) _ ∙ omega (arith, length-drop (length (tableOf part l)) lent, table-length part l)
 
   pub laid-beyond : drop (2 * length l) laid ≡ drop (2 * length l) lent
   laid-beyond =
-      ap (λ (k : ℕ). drop k laid) (sym (length-table part l)) ∙ drop-first (tableOf part l) _ ∙ ap (λ (k : ℕ). drop k lent) (length-table part l)
+      ap (λ (k : ℕ). drop k laid) (sym (table-length part l)) ∙ drop-first (tableOf part l) _ ∙ ap (λ (k : ℕ). drop k lent) (table-length part l)
 
 -- ---- the sum of the steps
 sum-first : (m : ℕ) (g : ℕ → ℕ) → sumOf (suc m) g ≡ g 0 + sumOf m (λ j. g (suc j))

@@ -12,7 +12,7 @@ use Rattle.algebra.specs.Reading.{from-over, read, _⊹_, _⋆_}
 use Rattle.enclosure.specs.Exact.{ofNat}
 use Rattle.enclosure.specs.laws.Root.{root-le}
 use Rattle.enclosure.specs.laws.WholeF64.{whole-few, plus-whole}
-use Rattle.enclosure.specs.laws.FigureSums.{Rest, sumOf, figureOf, figure-at-most, figure-at-least, steps-most}
+use Rattle.breaking.specs.laws.FigureSums.{Rest, sumOf, figureOf, figure-at-most, figure-at-least, steps-most}
 use Rattle.network.specs.SourceKinds.{isGenerator}
 use Rattle.network.specs.Network.{Network, sourceAt}
 use Rattle.network.specs.Demand.{Demand}

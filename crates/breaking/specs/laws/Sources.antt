@@ -12,7 +12,7 @@ use Rattle.enclosure.specs.Exact.{ofNat}
 use Rattle.enclosure.specs.Fraction.{Fraction, whole}
 use Rattle.enclosure.specs.Doubles.{nought, underRoot}
 use Rattle.enclosure.specs.laws.RootBounds.{RootHolds}
-use Rattle.enclosure.specs.laws.FigureSums as sums
+use Rattle.breaking.specs.laws.FigureSums as sums
 use Rattle.elements.specs.BreakingFactor.{muAt}
 use Rattle.elements.specs.Doubles.{muBy}
 use Rattle.elements.specs.laws.BreakingFactor.{mu-bounds}

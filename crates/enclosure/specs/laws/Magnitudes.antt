@@ -57,18 +57,3 @@ module _ (m : ℕ) (w s : ℕ → Fraction) (C N : Fraction) (proper : (j : ℕ)
 
   pub least-plain : (r : ℕ → Fraction) → ((j : ℕ) → j < m → (0 < r j .under) × Most (s j) (product (r j) (r j))) → SumAtLeast m w s C N → Most N (total m w r C)
   least-plain r h k = k r h
-
--- ---- width: a bound α·x + β for each part of a sum is one for the whole sum, with β for each part
-abbrev pub times : ℕ → Fraction → Fraction
-times m x = record { top = m * x .top; under = x .under }
-
-more-times : (x y z w α β : Fraction) (m : ℕ) → Most x (plus (product α y) (times m β)) → Most z (plus (product α w) β) → Most (plus x z) (plus (product α (plus y w)) (times (suc m) β))
-more-times x y z w α β m h k =
-    from (x .top ∷ x .under ∷ y .top ∷ y .under ∷ z .top ∷ z .under ∷ w .top ∷ w .under ∷ α .top ∷ α .under ∷ β .top ∷ β .under ∷ m ∷ [])
-    (w .under * z .under ⋆ h ⊹ y .under * x .under ⋆ k) (search read depth 40 fits 20000) refl
-
-pub total-close : (m : ℕ) (w w′ f f′ : ℕ → Fraction) (C α β : Fraction) → α .under ≤ α .top
-    → ((j : ℕ) → j < m → Most (product (w′ j) (f′ j)) (plus (product α (product (w j) (f j))) β)) → Most (total m w′ f′ C) (plus (product α (total m w f C)) (times m β))
-total-close zero w w′ f f′ C α β l h =
-    from (C .top ∷ C .under ∷ α .top ∷ α .under ∷ β .top ∷ β .under ∷ []) (C .top * (C .under * β .under) ⋆ l) (search read depth 40 fits 20000) refl
-total-close (suc m) w w′ f f′ C α β l h = more-times _ (total m w f C) _ (product (w m) (f m)) α β m (total-close m w w′ f f′ C α β l (λ j n. h j (omega arith))) (h m (omega arith))

@@ -361,9 +361,6 @@ reached-more j k X v l h = record {
 abbrev pub Span : ℕ → Fraction → Type 0
 Span E X = (X .under ≤ E * X .top) × (X .top ≤ E * X .under)
 
-pub span-more : (E F : ℕ) (X : Fraction) → E ≤ F → Span E X → Span F X
-span-more E F X l h = (le-trans (h .0) (mul-le-mul l (le-refl _)), le-trans (h .1) (mul-le-mul l (le-refl _)))
-
 pub span-product : (E F : ℕ) (X Y : Fraction) → Span E X → Span F Y → Span (E * F) (product X Y)
 span-product E F X Y h g = (
   from (E ∷ F ∷ X .top ∷ X .under ∷ Y .top ∷ Y .under ∷ []) (mul-le-mul (h .0) (g .0)) (search read depth 40 fits 20000) refl,

@@ -15,7 +15,8 @@ use Rattle.tree.specs.Limits.{maxBuses}
 use Rattle.network.specs.Network.{busAt, blank}
 use Rattle.network.specs.QueryAll.{answerBy, rowsBy}
 use Rattle.network.specs.laws.QueryAll.{refused-whole}
-use Rattle.network.proofs.Filling.{Answered, answered-none, answered-more, answered-all}
+use Rattle.network.specs.Query.{refusedBy}
+use Rattle.sweep.specs.laws.Columns.{FilledTo, filled-to-none, filled-to-more, filled-to-column}
 use Rattle.network.proofs.Lists.{length-mapped, read-counted}
 use native.Mathlib.Omega.{arith}
 use borrow.Author.Needs.{needs}
@@ -28,7 +29,7 @@ answerOf tolerance l seen G x b = answerBy tolerance (busAt l b) (seen b) (fromR
 
 abbrev Inv-loop : tie.InvT-loop
 Inv-loop tolerance n parents above below up-re up-im fall-re fall-im gathered buses rows₀ m b₀ rows b =
-    (b ≤ m) × ((g : ℕ) → Answered b (answerOf tolerance (take n buses) (seenOf (points up-re up-im) (points fall-re fall-im)) (columnGrid g parents above below) gathered) rows)
+    (b ≤ m) × ((g : ℕ) → FilledTo (refusedBy 15) (answerOf tolerance (take n buses) (seenOf (points up-re up-im) (points fall-re fall-im)) (columnGrid g parents above below) gathered) b rows)
 
 abbrev μ-loop : tie.MeasureT-loop
 μ-loop tolerance n parents above below up-re up-im fall-re fall-im gathered buses rows₀ m b₀ rows b = m - b
@@ -45,7 +46,7 @@ clamped-requires c κs = search needs
 loop-holds : tie.Need-loop-holds Inv-loop μ-loop
 loop-holds c =
     let r = c .before .refused .ensures in
-    (omega arith, λ g. answered-none _ _ (ap (replicate maxBuses) (refused-whole _ 15 (r .0) (r .1 .0) (r .1 .1))))
+    (omega arith, λ g. filled-to-none (refusedBy 15) _ _ (ap (replicate maxBuses) (refused-whole _ 15 (r .0) (r .1 .0) (r .1 .1))))
 
 mul-bus : tie.Need-mul-bus Inv-loop μ-loop
 mul-bus c = omega arith
@@ -78,7 +79,7 @@ loop-again c =
     let m : l .b < length k = omega (arith, length-take (a .n) (a .t2)) in
     let e = read-counted maxBuses (a .n) (a .t2) h (l .b) blank m in (
       omega arith,
-      λ g. answered-more _ (l .rows) (l .b) (c .answered .result) (omega arith) (c .answered .ensures g ∙ ap (λ (r : Bus). answerBy (a .tolerance) r (seenOf (points (a .up-re .now) (a .up-im .now)) (points (a .fall-re .now) (a .fall-im .now)) (l .b)) (fromRoot doubles (columnGrid g (a .parents .now) (a .above .now) (a .below .now)) (l .b) (a .gathered))) e) (l .inv .1 g),
+      λ g. filled-to-more (refusedBy 15) _ (l .rows) (l .b) (c .answered .result) (omega arith) (c .answered .ensures g ∙ ap (λ (r : Bus). answerBy (a .tolerance) r (seenOf (points (a .up-re .now) (a .up-im .now)) (points (a .fall-re .now) (a .fall-im .now)) (l .b)) (fromRoot doubles (columnGrid g (a .parents .now) (a .above .now) (a .below .now)) (l .b) (a .gathered))) e) (l .inv .1 g),
     )
 
 returns : tie.Need-returns Inv-loop μ-loop
@@ -89,7 +90,7 @@ returns c =
     let a = o .args in
     let h = whole o in
     let m : l .b ≡ length (take (a .n) (a .t2)) = omega (arith, length-take (a .n) (a .t2)) in
-    λ g. rw (← m) (answered-all _ (l .rows) (l .b) (l .inv .1 g))
+    λ g. rw (← m) (filled-to-column (refusedBy 15) _ (l .rows) (l .b) (l .inv .1 g))
 
 pub all-answered-spec : {M : Type 1} → statement M
 all-answered-spec =

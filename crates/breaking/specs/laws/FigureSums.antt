@@ -8,10 +8,12 @@ use native.Mathlib.Omega.{arith}
 use native.Mathlib.Nat.{le-refl, le-trans, mul-le-mul}
 use lib.Dec.{lit<}
 use Rattle.algebra.specs.Reading.{from, read, _⊹_, _⋆_}
 use Rattle.enclosure.specs.Fraction.{Fraction, Most, whole, product, total, SumAtMost, SumAtLeast}
 use Rattle.enclosure.specs.Doubles.{underRoot}
 use Rattle.enclosure.specs.laws.RootBounds.{RootHolds, bounds-above, bounds-under, bounds-close}
 use Rattle.enclosure.specs.laws.Magnitudes.{sum-at-most, sum-at-least, most-trans}
+use Rattle.tree.specs.Limits.{coveredSources}
+use Rattle.breaking.specs.Doubles.{weighed, amperesUp}
 
 -- g 0 + .. + g (m − 1)
 abbrev pub sumOf : ℕ → (ℕ → ℕ) → ℕ
@@ -24,13 +26,9 @@ fine n = record { top = n; under = 4096 }
 abbrev pub thousandths : ℕ → Fraction
 thousandths n = record { top = n; under = 1000 }
 
--- n steps with the weight w, rounded up to a whole step
-abbrev pub weighed : ℕ → ℕ → ℕ
-weighed w n = (w * n + 999) / 1000
-
 -- the figure from all steps: rounded up to whole numbers, and the rest's upper bound
 abbrev pub figureOf : ℕ → ℕ → ℕ
-figureOf S U = (S + 4095) / 4096 + U
+figureOf S U = amperesUp S + U
 
 -- ---- what is known of one magnitude with the square s and the weight w: it is from l to e steps, and the weight that is used is w′
 pub record Part (w w′ e l : ℕ) (s : Fraction) : Type 0 where
@@ -109,12 +107,12 @@ sum-low (suc m) w w′ e l s h =
 figure-high : (p S U : ℕ) → p ≤ 1000 * S → (p + U * 4096000) * 1 ≤ figureOf S U * 4096000
 figure-high p S U h = omega arith
 
-figure-low : (m p S L U : ℕ) → m ≤ 512 → 16383000000 * S ≤ 16662528 * p + 65518617000 * m → 1000 * U ≤ 1000 * (L + 2) + U
+figure-low : (m p S L U : ℕ) → m ≤ coveredSources → 16383000000 * S ≤ 16662528 * p + 65518617000 * m → 1000 * U ≤ 1000 * (L + 2) + U
     → 100 * (figureOf S U - 4) * 4096000 ≤ (p + L * 4096000) * 103
 figure-low m p S L U few h k = omega arith
 
 -- ---- THE FIGURE IS NEVER BELOW THE SUM, nor above it by more than 3 % and 4
-module _ (m : ℕ) (few : m ≤ 512) (w w′ e l : ℕ → ℕ) (s : ℕ → Fraction) (parts : (j : ℕ) → j < m → Part (w j) (w′ j) (e j) (l j) (s j)) (L U : ℕ) (C : Fraction) (rest : Rest L U C) where
+module _ (m : ℕ) (few : m ≤ coveredSources) (w w′ e l : ℕ → ℕ) (s : ℕ → Fraction) (parts : (j : ℕ) → j < m → Part (w j) (w′ j) (e j) (l j) (s j)) (L U : ℕ) (C : Fraction) (rest : Rest L U C) where
   pub figure-at-most : SumAtMost m (λ j. thousandths (w j)) s C (whole (figureOf (sumOf m (λ j. weighed (w′ j) (e j))) U))
   figure-at-most =
       sum-at-most m (λ j. thousandths (w j)) s C _ (λ j k. parts j k .proper) (λ j k. lit< tt) (rest .proper) (λ j. fine (e j)) (λ j k. (lit< tt, parts j k .above))
@@ -142,14 +140,3 @@ steps-most (suc m) w′ e B h =
   where
     go : (a b : ℕ) → a ≤ m * B → b ≤ B → a + b ≤ suc m * B
     go a b h k = from (a ∷ b ∷ m ∷ B ∷ []) (h ⊹ k) (search read depth 40 fits 20000) refl
-
--- a sum of up to 512 parts of up to 2 ^ 53 steps
-pub steps-small : (m : ℕ) (w′ e : ℕ → ℕ) → m ≤ 512 → ((j : ℕ) → j < m → (w′ j ≤ 1000) × (e j ≤ 2 ^ 53)) → sumOf m (λ j. weighed (w′ j) (e j)) ≤ 2 ^ 62
-steps-small m w′ e few h = le-trans (steps-most m w′ e (2 ^ 53) h) (mul-le-mul few (le-refl (2 ^ 53)))
-
--- and the figure where they are of up to 2 ^ 51 steps
-pub figure-small : (m : ℕ) (w′ e : ℕ → ℕ) (U : ℕ) → m ≤ 512 → ((j : ℕ) → j < m → (w′ j ≤ 1000) × (e j ≤ 2 ^ 51)) → U ≤ 2 ^ 52 → figureOf (sumOf m (λ j. weighed (w′ j) (e j))) U < 2 ^ 53
-figure-small m w′ e U few h k = go (sumOf m (λ j. weighed (w′ j) (e j))) (le-trans (steps-most m w′ e (2 ^ 51) h) (mul-le-mul few (le-refl (2 ^ 51))))
-  where
-    go : (S : ℕ) → S ≤ 2 ^ 60 → (S + 4095) / 4096 + U < 2 ^ 53
-    go S h = omega arith
