@@ -56,6 +56,6 @@ qSquareAt n b j =
 abbrev pub weightAt : Network → ℕ → ℕ → ℕ → Fraction
 weightAt n b delay j = record { top = cond (isGenerator (sourceAt (n .sources) j)) (muAt delay (qSquareAt n b j)) 1000; under = 1000 }
 
--- "converters in full": document 01's converters' part
+-- "converters in full": document 01's converters' part, a fraction on the real axis (`real` of ConvertersHold)
 abbrev pub convertersPart : Network → ℕ → Fraction
 convertersPart n b = record { top = convertersAt n b .re; under = convertersAt n b .den }

@@ -18,7 +18,8 @@ pub record Formula : Type 0 where
 abbrev pub formula : ℕ → ℕ → ℕ → Formula
 formula base height decay = record { base = base; height = height; decay = decay }
 
--- "0.84 + 0.26·e^(−0.26q), 0.71 + 0.51·e^(−0.30q), 0.62 + 0.72·e^(−0.32q), 0.56 + 0.94·e^(−0.38q)"
+-- "0.84 + 0.26·e^(−0.26q), 0.71 + 0.51·e^(−0.30q), 0.62 + 0.72·e^(−0.32q), 0.56 + 0.94·e^(−0.38q)".
+-- The last for any other delay, which is refused
 unfoldable pub formulaOf : ℕ → Formula
 formulaOf delay =
     cond (eqb delay 20) (formula 84 26 26)
@@ -30,7 +31,7 @@ formulaOf delay =
 abbrev pub formulaAt : Formula → ℕ → ℕ
 formulaAt m i = min 1000 (10 * m .base + ceiling (10 * m .height * tUnder 1000) (tOver (m .decay * i) 1000))
 
--- "μ comes from a table per delay", an entry for each tenth of q; below q = 2 it is 1
+-- "μ comes from a table per delay", an entry for each tenth of q. Entry 20 is that of q above 2; those before it are 1 and no q reads them
 unfoldable pub muOf : ℕ → ℕ → ℕ
 muOf delay i = cond (ltb i 20) 1000 (formulaAt (formulaOf delay) i)
 

@@ -9,7 +9,7 @@ use Rattle.enclosure.specs.Fraction.{Fraction, whole, product, quotient, sizeSq
 use Rattle.tree.specs.Grid.{Grid, parentOf, through, seen}
 
 -- ---- the way from b to j: the buses after b, of two bus numbers the greater going to its parent. A fuel of b + j is enough. That it leads
--- from b to j, each bus a neighbour of the one before and none twice, is proved (`leads` in laws/Shares)
+-- from b to j, each bus a neighbour of the one before and not the one before that, is proved (`leads` in laws/Shares)
 abbrev pub onwardBy : (ℕ → ℕ) → ℕ → ℕ → ℕ → List ℕ
 onwardBy p zero b j = []
 onwardBy p (suc f) b j = cond (eqb b j) [] (cond (ltb b j) (onwardBy p f b (p j) ++ (j ∷ [])) (p b ∷ onwardBy p f (p b) j))

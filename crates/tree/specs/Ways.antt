@@ -25,20 +25,20 @@ between p step z b j = betweenBy p step z (b + j) b j
 unfoldable pub overWay : (ℕ → ℕ) → (ℕ → Float) → (ℕ → Float) → Float → ℕ → ℕ → Float
 overWay p up down least = between p (λ b c v. floored least v (cond (ltb c b) (up b) (down c))) unity
 
--- the square of |x|/|z + x|, 1 where x is nothing
+-- the square of |x|/|z + x|: of the voltage before a branch z, the part that is left behind it, where x is; 1 where nothing is behind
 unfoldable pub dividerBy : Complex → Complex → Float
 dividerBy z x = cond (empty x) unity (div binary64 (square x) (square (added z x)))
 
 module _ (G : Grid) where
-  -- how a current divides over the branch of bus i: towards bus 0, s being what is seen at its parent without it, and away from it, s being
-  -- what is seen at i without its parent
+  -- the divider of the branch of bus i on a way towards bus 0, s being what is seen at its parent without it, and on a way away from bus 0,
+  -- s being what is seen at i without its parent
   abbrev pub dividerUp : (ℕ → Complex) → (ℕ → Complex) → ℕ → Float
   dividerUp z s i = dividerBy (z i) (timesSquare doubles (G .branch i .below) (G .branch i .above) (inverted (s i)))
 
   abbrev pub dividerDown : (ℕ → Complex) → (ℕ → Complex) → ℕ → Float
   dividerDown z s i = dividerBy (z i) (inverted (s i))
 
-  -- the rated ratio by which a current is carried over the branch of bus i from its parent, and to it
+  -- the rated ratio by which a current is carried back against such a way: from the parent to bus i, and from bus i to its parent
   abbrev pub ratioUp : ℕ → Float
   ratioUp i = ratio (G .branch i .above) (G .branch i .below)
 
@@ -53,19 +53,20 @@ module _ (G : Grid) where
   abbrev pub ratiosBy : ℕ → ℕ → Float
   ratiosBy = overWay (parentOf G) ratioUp ratioDown nought
 
--- 2 ^ 24·(c·Un)²/3, v being c·Un in hundredths of a volt, and that times |y|²
+-- 2 ^ 24·(c·Un)²/3, v being c·Un in hundredths of a volt, so that a root counts in steps of 1/4,096 A; and that times |y|²
 unfoldable pub driveBy : ℕ → Float
 driveBy v = mul binary64 (squared v) (ratio 16777216 30000)
 
 unfoldable pub strengthBy : Float → Complex → Float
 strengthBy drive y = mul binary64 drive (square y)
 
--- a share in steps of 1/4,096 A: k the strength, ρ and D the ratios and the dividers of the way
+-- a share in steps of 1/4,096 A: by the machine's strength, the ratio by which a current is carried back from it, and the dividers of the way
 unfoldable pub shareSteps : Float → Float → Float → ℕ
-shareSteps k ρ D = rootFine (mul binary64 (mul binary64 k (mul binary64 (mul binary64 ρ ρ) (mul binary64 ρ ρ))) D)
+shareSteps strength back divider =
+    rootFine (mul binary64 (mul binary64 strength (mul binary64 (mul binary64 back back) (mul binary64 back back))) divider)
 
 -- a generator's share at its terminals, in steps of 1/40,960 of its rated current
 unfoldable pub ratedSteps : Float → Float → Float → ℕ → ℕ → ℕ
-ratedSteps k ρ D volts kva =
-    let t = mul binary64 ρ (ratio volts (100 * kva)) in
-    rootFine (mul binary64 (mul binary64 (mul binary64 k (mul binary64 t t)) (ratio 3 1)) D)
+ratedSteps strength back divider volts kva =
+    let t = mul binary64 back (ratio volts (100 * kva)) in
+    rootFine (mul binary64 (mul binary64 (mul binary64 strength (mul binary64 t t)) (ratio 3 1)) divider)

@@ -22,6 +22,7 @@ use Rattle.network.specs.laws.Rebuilt.{Rebuilt, run-rebuilt}
 use Rattle.network.specs.laws.AcceptedRecords.{few-sources, closed-source}
 use Rattle.network.specs.laws.Claim.{demand}
 use Rattle.network.specs.laws.Promise.{amperes-given}
+use Rattle.network.specs.laws.Shares.{machine-share-some}
 use Rattle.breaking.specs.Breaking.{breakingGrounds, breakingNumber, figureAfter, tableAfter, laidOver, shareAt, convertersPart}
 use Rattle.breaking.specs.Doubles.{weighed, amperesUp, partAt, tableOf, stepsFrom, figureAt}
 use Rattle.breaking.specs.Promise.{BreakingHolds, BreakingPromise}
@@ -99,6 +100,7 @@ module _ {n : Network} (r : Rebuilt n) (c : n .closed ≡ true) (b : ℕ) (lb : 
     others = λ j l g. other-by (isGenerator (sourceAt (n .sources) j)) _ g;
     beyond = (laid-length (partAt n b delay) (n .sources) lent room, laid-beyond (partAt n b delay) (n .sources) lent room);
     proper = λ j l. part-holds r b lb j l delay .proper;
+    some = λ j l m. rw m (machine-share-some r b lb j l m);
     proper-q = λ j l g. proper-q-at r b lb j l g;
     proper-converters = asked .converters .proper;
     enough =

@@ -19,7 +19,7 @@ use Rattle.tree.specs.Ways.{dividerBy, dividerUp, dividerDown, ratioUp, ratioDo
 use Rattle.tree.specs.laws.Accuracy.{Accurate, accurate-more}
 use Rattle.tree.specs.laws.TreeBounds.{sound-proper}
 use Rattle.tree.specs.laws.Ways.{over-way-same}
-use Rattle.tree.specs.laws.Shares.{share-proper}
+use Rattle.tree.specs.laws.Shares.{share-proper, share-some}
 use Rattle.tree.specs.laws.Ratios.{Crossed, Levelled, levelled-more, ratios-level}
 use Rattle.tree.specs.laws.Dividers.{seenAbove, seenBelow}
 use Rattle.tree.specs.laws.ShareBounds.{factor, ratedFactor, share-bounds, share-few, ratedSquare, rated-proper, terminal-bounds}
@@ -35,7 +35,7 @@ use Rattle.network.specs.Demand.{driving}
 use Rattle.network.specs.Doubles.{ownBy, branchesBy, machineBy, treeOf, crossingsBy, waysFrom}
 use Rattle.network.specs.laws.Rebuilt.{Rebuilt}
 use Rattle.network.specs.laws.AcceptedRecords.{bus-volts, source-bus, few-buses}
-use Rattle.network.specs.laws.AcceptedTree.{voltsOf, sound, levels, near-branch, machine-near}
+use Rattle.network.specs.laws.AcceptedTree.{voltsOf, sound, levels, near-branch, machine-near, machine-reactive}
 use Rattle.network.specs.laws.BusSums.{plain, own-near, own-reactive}
 use Rattle.network.specs.laws.ShareFacts.{machine-volts-square, machine-proper, machine-some, machine-least, machine-most, generator-kva, generator-rated, generator-volts, driving-some, driving-most, driving-square, transformers-most, ratio-above, ratio-below, transformers-more, small-share, small-rated}
 use Rattle.network.specs.laws.Bridge.{number-all, shaped, branch-column, above-walk, below-walk}
@@ -145,6 +145,10 @@ module _ {n : Network} (r : Rebuilt n) (b : ℕ) (lb : b < length (n .buses)) wh
 
     pub machine-share-proper : 0 < shareSquare (gridOf n) (driving n b) (admittanceOf n (sourceAt (n .sources) j)) b (sourceAt (n .sources) j .bus) .under
     machine-share-proper = share-proper (gridOf n) (sound r .tree) (sound-proper (gridOf n) (sound r) (plain r)) (driving n b) _ b _ (machine-proper r j l m) lb (source-bus r j l) (own-reactive r j l m)
+
+    pub machine-share-some : 0 < shareSquare (gridOf n) (driving n b) (admittanceOf n (sourceAt (n .sources) j)) b (sourceAt (n .sources) j .bus) .top
+    machine-share-some =
+        share-some (gridOf n) (sound r .tree) (sound-proper (gridOf n) (sound r) (plain r)) (driving n b) _ b _ (driving-some r b lb) (machine-proper r j l m) (machine-reactive r j l m) lb (source-bus r j l) (own-reactive r j l m)
 
     pub share-small : shareSteps (strengthBy (driveBy (driving n b)) (machineBy n (sourceAt (n .sources) j))) (factorAt (waysFrom n b .reach .ratios) (sourceAt (n .sources) j .bus)) (factorAt (waysFrom n b .reach .dividers) (sourceAt (n .sources) j .bus)) + 1 ≤ 2 ^ 51
     share-small =

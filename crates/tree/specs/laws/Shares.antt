@@ -330,7 +330,7 @@ module _ {A B : Type 0} (p : ℕ → ℕ) (n : ℕ) (tree : (i : ℕ) → 0 < i 
       let l = tree i z li in
       more (suc k) (1 + k) _ _ (omega arith) (steps k (p i) i x y (omega arith) li (neighbour-joined p (p i) (p i) i (neighbour-child p (p i) (p i) i l refl (λ q. omega arith)) .0) r))
 
--- ---- a divider is at most 1
+-- ---- dividers lie between 0 and 1
 pub divider-most : (z x : Point) → dividerOf z x .top ≤ dividerOf z x .under
 unfolding dividerOf
 divider-most z x = go (isNothing x)
@@ -339,7 +339,39 @@ divider-most z x = go (isNothing x)
     go true = omega arith
     go false = poly (z .re ∷ z .im ∷ z .den ∷ x .re ∷ x .im ∷ x .den ∷ []) (search read depth 40 fits 20000) refl
 
+pub divider-some : (z x : Point) → 0 < z .den → 0 < x .den → 0 < dividerOf z x .top
+unfolding dividerOf
+divider-some z x hz hx = go (isNothing x) refl
+  where
+    go : (s : Bool) → isNothing x ≡ s → 0 < cond s (whole 1) (quotient (sizeSquare x) (sizeSquare (sum z x))) .top
+    go true e = omega arith
+    go false e = mul-pos (norm-pos (x .re) (x .im) (eqb-false (x .re + x .im) 0 e)) (mul-pos (mul-pos hz hx) (mul-pos hz hx))
+
 module _ (G : Grid) (tree : Treelike G) (proper : Proper G) where
+  crossing-proper : (b c : ℕ) → b < G .count → c < G .count → joined (parentOf G) b c ≡ true → 0 < crossing G b c .den
+  crossing-proper b c lb lc e = go (ltb c b) refl
+    where
+      go : (s : Bool) → ltb c b ≡ s → 0 < cond s (G .branch b .z) (G .branch c .z) .den
+      go true q = proper .branch b (to-parent (parentOf G) b c e q .0) lb
+      go false q = proper .branch c (to-child (parentOf G) b c e q .0) lc
+
+  behind-proper : (b c : ℕ) → b < G .count → c < G .count → joined (parentOf G) b c ≡ true → 0 < behind G b c .den
+  behind-proper b c lb lc e = go (ltb c b) refl
+    where
+      go : (s : Bool) → ltb c b ≡ s → 0 < cond s (timesSquare exact (G .branch b .below) (G .branch b .above) (inverse (seen G c b))) (inverse (seen G c b)) .den
+      go true q = let v = proper .volts b (to-parent (parentOf G) b c e q .0) lb .0 in mul-pos (mul-pos (inverse-proper (seen G c b)) v) v
+      go false q = inverse-proper (seen G c b)
+
+  -- and so does their product
+  pub dividers-sound : (b j : ℕ) → b < G .count → j < G .count → (0 < dividers G b j .top) × (dividers G b j .top ≤ dividers G b j .under)
+  dividers-sound =
+      between-related (parentOf G) (G .count) tree (λ k x y. (0 < x .top) × (x .top ≤ x .under)) (λ j k x y l h. h)
+      (λ b c x. product x (divider G b c)) (λ b c x. x) (whole 1) (whole 1) (omega arith, omega arith)
+      (λ k b c x y lb lc e h. (
+        mul-pos (h .0) (divider-some (crossing G b c) (behind G b c) (crossing-proper b c lb lc e) (behind-proper b c lb lc e)),
+        mul-le-mul (h .1) (divider-most (crossing G b c) (behind G b c)),
+      ))
+
   -- nothing on the way is divided by 0
   part-proper : (y : Point) (w b j : ℕ) (l : List ℕ) → 0 < y .den → b < G .count → Leads (parentOf G) (G .count) w b l j → Fed (G .own j) → 0 < partSquare G y w b l .under
   part-proper y w b j [] z lb h g = let f = fed-way G tree proper w b j [] lb h g in mul-pos (mul-pos z z) (norm-pos _ _ (λ q. omega (arith, f .reactive)))
@@ -384,3 +416,19 @@ module _ (G : Grid) (tree : Treelike G) (proper : Proper G) where
       put : (w : ℕ) (Y D R S : Fraction) → Equal S (product (record { top = w; under = 30000 }) (product Y (product D (fourth R))))
           → Equal (quotient S (product R R)) (product (record { top = w; under = 30000 }) (product Y (product D (product R R))))
       put w Y D R S e = equal (w ∷ Y .top ∷ Y .under ∷ D .top ∷ D .under ∷ R .top ∷ R .under ∷ S .top ∷ S .under ∷ []) e (search read depth 40 fits 20000) refl
+
+  -- nor is anything on it nothing: a share of 0 would mean that there is no such machine
+  pub share-some : (v : ℕ) (y : Point) (b j : ℕ) → 0 < v → 0 < y .den → 0 < y .im → b < G .count → j < G .count → 0 < G .own j .im → 0 < shareSquare G v y b j .top
+  share-some v y b j v₀ d₀ y₀ lb lj m =
+      positive (shareSquare G v y b j) (shareCalculated G v y b j) (share-square G tree proper v y b j lb lj m) (share-proper v y b j d₀ lb lj m)
+      (mul-pos (mul-pos v₀ v₀) (mul-pos (norm-pos _ _ (λ q. omega arith)) (mul-pos (dividers-sound b j lb lj .0) (mul-pos (mul-pos r r) (mul-pos r r)))))
+    where
+      r : 0 < ratios G b j .top
+      r = ratios-some b j lb lj .0
+
+      positive : (x z : Fraction) → Equal x z → 0 < x .under → 0 < z .top → 0 < x .top
+      positive x z e h k = go (x .top) e
+        where
+          go : (t : ℕ) → t * z .under ≡ z .top * x .under → 0 < t
+          go zero q = absurd (omega (arith, mul-pos k h, q))
+          go (suc t) q = omega arith
