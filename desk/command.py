@@ -35,6 +35,8 @@ def parsed(words):
     for word in left:
         if word == "--":
             return options, names + list(left)
+        if word in options and options[word]:
+            raise Usage()
         if word == "--breaking":
             options[word] = delay_of(next(left, ""))
         elif word.startswith("-") and word != "-":
