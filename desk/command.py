@@ -35,9 +35,9 @@ def parsed(words):
     for word in left:
         if word == "--":
             return options, names + list(left)
-        if word in options and options[word]:
-            raise Usage()
         if word == "--breaking":
+            if word in options:
+                raise Usage()
             options[word] = delay_of(next(left, ""))
         elif word.startswith("-") and word != "-":
             options["--help" if word == "-h" else word] = ""
