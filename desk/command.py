@@ -2,6 +2,7 @@
 import os
 import subprocess
 
+from desk.breaking import delay_of
 from desk.drawing import as_diagram
 from desk.help import HELP, USAGE
 from desk.program import ROOT
@@ -13,6 +14,7 @@ from desk.trouble import Trouble
 # By the option that says what is done: the options that may stand beside it, and how many names there may be.
 FORMS = {
     "": ({"--exact"}, (1,)),
+    "--breaking": ({"--exact"}, (1,)),
     "--fix": ({"--force"}, (2,)),
     "--toml": ({"--force"}, (1, 2)),
     "--rows": ({"--force", "--exact"}, (1, 2)),
@@ -28,13 +30,17 @@ class Usage(Exception):
 
 
 def parsed(words):
-    """The options that were given, and the names."""
-    options, names = set(), []
-    for k, word in enumerate(words):
+    """The options that were given, each with its value if it has one, and the names."""
+    options, names, left = {}, [], iter(words)
+    for word in left:
         if word == "--":
-            return options, names + words[k + 1:]
-        if word.startswith("-") and word != "-":
-            options.add("--help" if word == "-h" else word)
+            return options, names + list(left)
+        if word == "--breaking":
+            if word in options:
+                raise Usage()
+            options[word] = delay_of(next(left, ""))
+        elif word.startswith("-") and word != "-":
+            options["--help" if word == "-h" else word] = ""
         else:
             names.append(word)
     return options, names
@@ -44,7 +50,7 @@ def form_of(options, names):
     """The option that says what is done, where the others and the number of names go with it."""
     form = next((option for option in FORMS if option in options), "")
     beside, counts = FORMS[form]
-    if not options <= beside | {form} or len(names) not in counts:
+    if not options.keys() <= beside | {form} or len(names) not in counts:
         raise Usage()
     return form
 
@@ -65,7 +71,9 @@ def carried_out(words):
         return as_rows(source, target, force, exact)
     if form == "--write":
         return in_rows(source, target, force, exact)
-    return as_diagram(source, target, force, exact) if form == "--svg" else shown(source, exact)
+    if form == "--svg":
+        return as_diagram(source, target, force, exact)
+    return shown(source, exact, options.get("--breaking", ""))
 
 
 def revision():

@@ -1,12 +1,13 @@
 """What `board` says of itself."""
 
-USAGE = "usage: board FILE, or board --fix | --toml | --rows | --write | --svg IN OUT   (board --help says more)"
+USAGE = "usage: board FILE, or board --breaking MS FILE, or board --fix | --toml | --rows | --write | --svg IN OUT   (board --help says more)"
 HELP = """\
 name
     board - short-circuit currents of a study, as a table for people
 
 usage
     board [--exact] FILE
+    board --breaking MS [--exact] FILE
     board --fix IN OUT [--force]
     board --toml IN [OUT] [--force]
     board --rows [--exact] IN [OUT] [--force]
@@ -35,6 +36,14 @@ what it prints
 options
     --exact
         Nothing is rounded: a plan in which something would have to be is refused, with the places.
+    --breaking MS
+        Adds the breaking current Ib for a minimum delay of MS, which is 20, 50, 100 or 250 ms: a column of the table, and
+        below it a table of who contributes how much. This has for each bus its generators, the largest share first: the
+        lower and the upper bound of the share, in amperes and before the factor μ, and the upper in percent of Ib. Generators
+        alike at one bus stand in one line, added up. What comes to less than 1 % of Ib is left out; a last line says how
+        many generators these are and what they come to at most. Where that would be one line alone, it is listed instead.
+        Ib contains besides the feeder and the motors with μ = 1 and the converters in full; of these there are no bounds.
+        The figures come from the proved program target/bin/console, as with --write.
     --fix IN OUT
         Mends how rows are put down and writes the result to OUT; IN stays as it is. Mended is what is certain: line
         ends become CRLF; a byte order mark goes; UTF-16 becomes plain text; blank rows at the end go; semicolons become
@@ -74,6 +83,7 @@ examples
     ./board examples/town.csv
     ./board examples/town.toml
     ./board - < examples/substation.csv
+    ./board --breaking 100 examples/ieee33.csv
     ./board --toml examples/town.csv plan.toml && ./board --exact plan.toml
     ./board --rows examples/from-data-sheets.toml | ./board -
     ./board --write examples/substation.csv tidy.csv && ./board tidy.csv

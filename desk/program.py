@@ -8,7 +8,7 @@ from desk.trouble import Trouble, reason
 
 ROOT = Path(__file__).resolve().parent.parent
 PROGRAM = ROOT / "target/bin/noldveig"
-CONSOLE = ROOT / "target/bin/console"  # what desk/writer.py asks
+CONSOLE = ROOT / "target/bin/console"  # what desk/console.py asks
 
 
 class Refusal(NamedTuple):

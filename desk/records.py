@@ -18,6 +18,7 @@ SOURCE_FIELDS = 5  # the same of a source; the two counts have nothing to do wit
 TRANSFORMER = 2
 LINE = 1
 FEEDER = 1
+GENERATOR = 2
 
 
 class Field(NamedTuple):
@@ -96,7 +97,7 @@ BRANCHES = {
 
 SOURCES = {
     FEEDER: source_kind("feeder", given("short-circuit power", "kVA", 1_000, 100_000_000), RATIO),
-    2: source_kind(
+    GENERATOR: source_kind(
         "generator",
         MACHINE_VOLTS,
         given("rated power", "kVA", 10, 1_000_000),

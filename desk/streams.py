@@ -14,13 +14,13 @@ class Answer(NamedTuple):
 
 
 def fitted(words, stream):
-    """Words as a stream can show them: what its encoding has not comes as \\x codes, and the ohm by its name."""
+    """Words as a stream can show them: what its encoding has not comes as \\x codes, ohm and mu by their names."""
     encoding = getattr(stream, "encoding", None) or "ascii"
     try:
         words.encode(encoding)
         return words
     except UnicodeEncodeError:
-        return words.replace("Ω", "ohm").encode(encoding, "backslashreplace").decode(encoding)
+        return words.replace("Ω", "ohm").replace("μ", "mu").encode(encoding, "backslashreplace").decode(encoding)
 
 
 def silence(stream):

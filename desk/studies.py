@@ -4,9 +4,11 @@ import sys
 from typing import NamedTuple
 
 from desk import files
+from desk.breaking import breakings
 from desk.plan import Mistakes, rows_of_plan
 from desk.program import Refusal, answer
 from desk.refusals import explained
+from desk.shares import heading, shares
 from desk.show import visible
 from desk.streams import Answer, fitted
 from desk.table import table
@@ -20,6 +22,7 @@ class Study(NamedTuple):
     rows: bytes
     names: tuple = ()       # of the buses, where it was a plan
     roundings: tuple = ()   # each in words with its place in the plan
+    sources: tuple = ()     # their names, where it was a plan; empty where the plan gives none
 
 
 # ---- which of the two it is
@@ -59,7 +62,7 @@ def from_plan(data, exact):
     if IN_ROWS.match(first_line(data)):
         raise Mistakes(["it looks like the rows of a study, not like a plan; names that end in .toml, and --rows, are for plans"])
     converted = rows_of_plan(text_of(data), exact)
-    return Study(converted.rows, tuple(converted.names), tuple(converted.roundings))
+    return Study(converted.rows, tuple(converted.names), tuple(converted.roundings), tuple(converted.sources))
 
 
 def mistaken(found):
@@ -82,21 +85,30 @@ def refused(study, got):
     return said.split("\n")[0] + f"\n  {A_PLAN}" if got.number == 16 and looks_like_plan(study.rows) else said
 
 
-def judged(study):
-    """The program's answer to a study, for people."""
+def judged(study, delay=""):
+    """The program's answer to a study, for people; with a delay, the breaking currents too."""
     got = answer(study.rows)
     if isinstance(got, Refusal):
         return Answer(1, refused(study, got))
-    names = [fitted(name, sys.stdout) for name in study.names]  # before the columns are measured
-    return Answer(0, "\n\n".join(filter(None, [table(study.rows, got, names), rounded(study)])))
+    # names before the columns are measured
+    names, sources = ([fitted(name, sys.stdout) for name in words] for words in (study.names, study.sources))
+    said = with_breaking(study.rows, got, delay, names, sources) if delay else [table(study.rows, got, names)]
+    return Answer(0, "\n\n".join(filter(None, [*said, rounded(study)])))
 
 
-def shown(path, exact=False):
-    """`board FILE`."""
+def with_breaking(rows, got, delay, names, sources):
+    """The table with a column of breaking currents, and who contributes how much to them."""
+    found = breakings(rows, delay)
+    column = [heading(delay)] + [f"{one.figure:,}" for one in found]
+    return [table(rows, got, names, column), shares(rows, found, delay, names, sources)]
+
+
+def shown(path, exact=False, delay=""):
+    """`board FILE`, and `board --breaking MS FILE`."""
     data = files.read(path)
     if not is_plan(path, data):
-        return judged(Study(data))
+        return judged(Study(data), delay)
     try:
-        return judged(from_plan(files.whole(path, data), exact))
+        return judged(from_plan(files.whole(path, data), exact), delay)
     except Mistakes as found:
         return Answer(1, mistaken(found))

@@ -3,6 +3,7 @@ from desk.records import rows_of
 from desk.trouble import Trouble
 
 HEADINGS = ("bus", "volts", "machines", "converters", "peak", "rating", "peak rating", "verdict")
+LEFT = ("name", "generator", "verdict")
 NOTE = "All currents in amperes; initial currents as rms values, from a lower to an upper bound; peaks as momentary values."
 
 
@@ -29,23 +30,28 @@ def bus_line(bus, record):
             f"{total_peak:,}", f"{rating:,}", f"{peak_rating:,}", words)
 
 
-def with_names(lines, names):
-    """The lines with the buses' names behind their numbers."""
-    return [(line[0], name, *line[1:]) for line, name in zip(lines, names)]
+def with_column(lines, place, column):
+    """The lines with a cell more in each."""
+    return [(*line[:place], cell, *line[place:]) for line, cell in zip(lines, column)]
 
 
 def columns(lines):
-    """Columns under their headings, the first line: figures to the right, names and the verdict's words to the left."""
+    """Columns under their headings, the first line: figures to the right, names and words to the left."""
     widths = [max(map(len, column)) for column in zip(*lines)]
-    sides = ["<" if heading in ("name", "verdict") else ">" for heading in lines[0]]
+    sides = ["<" if heading in LEFT else ">" for heading in lines[0]]
     return "\n".join("  ".join(f"{cell:{side}{width}}" for cell, side, width in zip(line, sides, widths)).rstrip()
                      for line in lines)
 
 
-def table(text, buses, names=()):
-    """The table of an accepted study, from its text, what the program printed for its buses, and their names if they have any."""
+def table(text, buses, names=(), breaking=()):
+    """The table of an accepted study, from its text and what the program printed for its buses; with their names, and with a
+    column of breaking currents below its heading, where there are any."""
     records = [row.decode("ascii").split(",") for row in rows_of(text) if row.startswith(b"B,")]
     if len(records) != len(buses):
         raise Trouble(f"the program gave {len(buses)} rows for {len(records)} buses")
     lines = [HEADINGS] + [bus_line(bus, record) for bus, record in zip(buses, records)]
-    return columns(with_names(lines, ["name", *names]) if names else lines) + "\n\n" + NOTE
+    if breaking:
+        lines = with_column(lines, HEADINGS.index("peak"), breaking)
+    if names:
+        lines = with_column(lines, 1, ["name", *names])
+    return columns(lines) + "\n\n" + NOTE

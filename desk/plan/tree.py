@@ -223,6 +223,9 @@ class Tree:
             rows += [("P", *values_of("P", kind, values))] * source.numbers.get("count", 1)
         return rows
 
+    def source_names(self):
+        return [source.words.get("name", "") for source in self.sources for _ in range(source.numbers.get("count", 1))]
+
     def bus_values(self, step, number):
         kind = step.branch.kind.number if step.branch else 0
         branch = seen_from(step.branch, step.parent) if step.branch else {}
