@@ -172,7 +172,13 @@ fn breakings(s: Study, n: u32, delay: u32, table: &mut [f64], k: u32) -> f64
 
 // A text read, and k breaking calls of its study, going round over the buses up to `last`.
 #[no_mangle]
-pub extern "C" fn network_breakings(text: &[u8], last: u8, delay: u32, table: &mut [f64], k: u32) -> f64
+pub extern "C" fn network_breakings(
+    text: &[u8],
+    last: u8,
+    delay: u32,
+    table: &mut [f64],
+    k: u32,
+) -> f64
     ensures { λ r. ⌜ brokenTimes (readOf (now (text .entry)) .network) (last + 1) delay (now (table .entry)) k ≡ (now (table .exit), r) ⌝ }
 {
     let reading = reader::read(text);
