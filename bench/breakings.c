@@ -10,7 +10,7 @@
 double network_sums(const char *text, size_t length, uint8_t last, uint32_t queries);
 double network_breakings(const char *text, size_t length, uint8_t last, uint32_t delay, double *table, size_t room, uint32_t calls);
 
-enum { RUNS = 400, AT_LEAST = 64, TEXT = 65537, WORKS = 3, DELAY = 100 };
+enum { RUNS = 200, AT_LEAST = 64, TEXT = 65537, WORKS = 3, DELAY = 100 };
 
 static char text[TEXT];
 static size_t length;
