@@ -1,6 +1,7 @@
 /* Times breaking calls of a study on standard input, proved (target/staticlib/libbench.a) and in plain doubles, and proved queries, in
-   one process and turn about: nanoseconds, the least of many short runs. Prints a name and a number to a line. Stops where the proved
-   figure or bounds and the plain ones do not agree, for any bus and delay. */
+   one process and turn about: nanoseconds of the processor, the least of many runs; of the processor, since a run of calls takes some
+   milliseconds, in which other work may well come between. Prints a name and a number to a line. Stops where the proved figure or bounds
+   and the plain ones do not agree, for any bus and delay. */
 #include "plain.h"
 
 #include <stdint.h>
@@ -21,7 +22,7 @@ static volatile double sink;
 static double now(void)
 {
     struct timespec t;
-    clock_gettime(CLOCK_MONOTONIC, &t);
+    clock_gettime(CLOCK_PROCESS_CPUTIME_ID, &t);
     return 1e9 * (double)t.tv_sec + (double)t.tv_nsec;
 }
 
