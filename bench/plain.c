@@ -106,7 +106,8 @@ static struct point machine_impedance(const struct study *s, int j)
     return (struct point){x * f[3] / 100, x};
 }
 
-static void fill_columns(const struct study *s, struct columns *c)
+/* Also each machine's admittance, where there is room for them. */
+static void fill_columns(const struct study *s, struct columns *c, struct point *machines)
 {
     for (int b = 0; b < s->buses; b++) {
         c->own[b] = (struct point){0, 0};
@@ -122,6 +123,8 @@ static void fill_columns(const struct study *s, struct columns *c)
             c->supplied[b] += s->of_source[j][0] * s->of_source[j][1] / 1000;
         } else {
             struct point y = inverse(machine_impedance(s, j));
+            if (machines)
+                machines[j] = y;
             c->own[b].re += y.re;
             c->own[b].im += y.im;
         }
@@ -198,13 +201,13 @@ static struct figures figures_of(const struct study *s, const struct columns *c,
 struct figures plain_query(const struct study *s, int bus)
 {
     struct columns c;
-    fill_columns(s, &c);
+    fill_columns(s, &c, NULL);
     return figures_of(s, &c, bus, seen(s, &c, bus, bus), gathered(s, &c));
 }
 
 void prepare(const struct study *s, struct prepared *p)
 {
-    fill_columns(s, &p->columns);
+    fill_columns(s, &p->columns, NULL);
     p->gathered = gathered(s, &p->columns);
     for (int b = s->buses - 1; b >= 0; b--) {
         p->first[b] = -1;
@@ -241,10 +244,10 @@ struct figures prepared_query(const struct study *s, const struct prepared *p, i
 }
 
 /* What the sweeps leave at each bus i: what is seen at i without its parent (up); what is seen of i at its parent (rise), and what the
-   parent had before that (before); the sum of the rises of those of its children that are done (beside); what is seen of its parent at i (fall); the
-   converters' current. */
+   parent had before that (before); the sum of the rises of those of its children that are done (beside); what is seen at its parent
+   without i (down), and of that at i (fall); the converters' current. */
 struct swept {
-    struct point up[BUSES], rise[BUSES], before[BUSES], beside[BUSES], fall[BUSES];
+    struct point up[BUSES], rise[BUSES], before[BUSES], beside[BUSES], down[BUSES], fall[BUSES];
     double current[BUSES];
 };
 
@@ -272,8 +275,8 @@ static void sweep_down(const struct study *s, const struct columns *c, struct sw
         w->beside[i] = w->fall[i] = (struct point){0, 0};
     for (int i = 1; i < s->buses; i++) {
         int p = s->parent[i];
-        struct point without = plus(plus(w->before[i], w->beside[p]), w->fall[p]);
-        w->fall[i] = seen_through(c, i, p, without);
+        w->down[i] = plus(plus(w->before[i], w->beside[p]), w->fall[p]);
+        w->fall[i] = seen_through(c, i, p, w->down[i]);
         w->beside[p] = plus(w->beside[p], w->rise[i]);
         w->current[i] = w->current[p] * c->above[i] / c->below[i];
     }
@@ -283,9 +286,82 @@ void plain_board(const struct study *s, struct figures *rows)
 {
     struct columns c;
     struct swept w;
-    fill_columns(s, &c);
+    fill_columns(s, &c, NULL);
     sweep_up(s, &c, &w);
     sweep_down(s, &c, &w);
     for (int b = 0; b < s->buses; b++)
         rows[b] = figures_at(s, b, plus(w.up[b], w.fall[b]), w.current[b]);
+}
+
+/* The square of |x|/|z + x|, y being one over x; 1 where y is nothing, since nothing then flows behind z. */
+static double divided(struct point z, struct point y, double turns)
+{
+    if (y.re + y.im == 0)
+        return 1;
+    struct point x = times(inverse(y), turns * turns), sum = plus(z, x);
+    return (x.re * x.re + x.im * x.im) / (sum.re * sum.re + sum.im * sum.im);
+}
+
+/* From a bus to each: the product of the dividers' squares, and that of the rated ratios by which a current is carried back. */
+struct reach {
+    double dividers[BUSES], ratios[BUSES];
+};
+
+/* First the buses between this one and bus 0, then all others, each from its parent. */
+static void reach_from(const struct study *s, const struct columns *c, const struct swept *w, int bus, struct reach *r)
+{
+    for (int i = 0; i < s->buses; i++)
+        r->dividers[i] = 0;
+    r->dividers[bus] = r->ratios[bus] = 1;
+    for (int i = bus; i > 0; i = s->parent[i]) {
+        int p = s->parent[i];
+        r->dividers[p] = r->dividers[i] * divided(c->z[i], w->down[i], c->below[i] / c->above[i]);
+        r->ratios[p] = r->ratios[i] * c->above[i] / c->below[i];
+    }
+    for (int i = 1; i < s->buses; i++) {
+        int p = s->parent[i];
+        if (r->dividers[i] > 0)
+            continue;
+        r->dividers[i] = r->dividers[p] * divided(c->z[i], w->up[i], 1);
+        r->ratios[i] = r->ratios[p] * c->below[i] / c->above[i];
+    }
+}
+
+void plain_factors(int delay, double *mu)
+{
+    double base = delay == 20 ? 0.84 : delay == 50 ? 0.71 : delay == 100 ? 0.62 : 0.56;
+    double height = delay == 20 ? 0.26 : delay == 50 ? 0.51 : delay == 100 ? 0.72 : 0.94;
+    double decay = delay == 20 ? 0.26 : delay == 50 ? 0.30 : delay == 100 ? 0.32 : 0.38;
+    for (int i = 0; i < FACTORS; i++)
+        mu[i] = i < 20 ? 1 : fmin(1, ceil(1000 * (base + height * exp(-decay * i / 10))) / 1000);
+}
+
+double plain_breaking(const struct study *s, int bus, const double *mu, double *shares)
+{
+    struct columns c;
+    struct swept w;
+    struct reach r;
+    struct point machines[SOURCES];
+    fill_columns(s, &c, machines);
+    sweep_up(s, &c, &w);
+    sweep_down(s, &c, &w);
+    reach_from(s, &c, &w, bus, &r);
+    double drive = factor_c(s, s->volts[bus]) * s->volts[bus] / sqrt(3), total = w.current[bus];
+    for (int j = 0; j < s->sources; j++) {
+        int b = s->at[j];
+        const double *f = s->of_source[j];
+        shares[j] = 0;
+        if (s->source[j] == 4)
+            continue;
+        struct point y = machines[j];
+        double terminal = drive * r.ratios[b] * sqrt((y.re * y.re + y.im * y.im) * r.dividers[b]);
+        double share = terminal * r.ratios[b];
+        if (s->source[j] == 2) {
+            double q = terminal * sqrt(3) * f[0] / (1000 * f[1]);
+            shares[j] = share;
+            share *= q <= 2 ? 1 : mu[q >= 10 ? 100 : (int)(10 * q)];
+        }
+        total += share;
+    }
+    return total;
 }

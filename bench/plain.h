@@ -1,7 +1,7 @@
 /* The calculation of a network in plain doubles: what crates/network calculates, without bounds, checks or proofs. */
 #include <stddef.h>
 
-enum { BUSES = 128, SOURCES = 512, FIELDS = 5 };
+enum { BUSES = 128, SOURCES = 512, FIELDS = 5, FACTORS = 101 };
 
 struct point {
     double re, im;
@@ -46,3 +46,8 @@ struct figures prepared_query(const struct study *s, const struct prepared *p, i
 
 /* The figures of all buses by two sweeps over the tree, towards bus 0 and away from it; nothing is subtracted. */
 void plain_board(const struct study *s, struct figures *rows);
+
+/* The factors of generators for a delay, one for each tenth of q; and the breaking current at a bus by them, with each generator's share, 0
+   for any other source: both sweeps, and one product over the way from the bus to each. */
+void plain_factors(int delay, double *mu);
+double plain_breaking(const struct study *s, int bus, const double *mu, double *shares);

@@ -1,3 +1,4 @@
 pub mod Queries
 pub mod Boards
+pub mod Breakings
 pub mod Writes

@@ -1,5 +1,6 @@
 // What C times: the operations of enclosing arithmetic (bench/enclosure.c), where a point goes in and comes out by its parts, reading
-// and querying a study (bench/queries.c), all its buses together (bench/boards.c), and writing it (bench/writes.c).
+// and querying a study (bench/queries.c), all its buses together (bench/boards.c), breaking currents (bench/breakings.c), and writing
+// it (bench/writes.c).
 ghost use mathlib.Core.Path.{_≡_};
 ghost use Prim.Native.Nat.{_<_, _≤_, _+_};
 ghost use Rattle.enclosure.specs.Doubles.{added, inverted, scaled, rootBelow};
@@ -7,8 +8,10 @@ ghost use Rattle.network.specs.Network.{maxBuses};
 ghost use Rattle.network.specs.Network.{network};
 ghost use Rattle.reader.specs.File.{readOf};
 ghost use Rattle.bench.specs.Boards.{rowsAdded, boardsOf};
+ghost use Rattle.bench.specs.Breakings.{brokenTimes};
 ghost use Rattle.bench.specs.Queries.{sumOf, sumsOf};
 ghost use Rattle.bench.specs.Writes.{writtenTimes};
+use breaking::breaking;
 use enclosure::Complex;
 use network::query::Amperes;
 use network::query::Found;
@@ -150,4 +153,35 @@ pub extern "C" fn study_writes(text: &[u8], buffer: &mut [u8], k: u32) -> usize
 {
     let reading = reader::read(text);
     writes(reading.study, buffer, k)
+}
+
+// k breaking calls, going round over the buses 0 to n - 1, all with one table: their figures, added up.
+fn breakings(s: Study, n: u32, delay: u32, table: &mut [f64], k: u32) -> f64
+    requires { ⌜ 0 < n ⌝ }
+    ensures { λ r. ⌜ brokenTimes (network s) n delay (now (table .entry)) k ≡ (now (table .exit), r) ⌝ }
+{
+    let mut total = 0.0;
+    let mut i: u32 = 0;
+    while i < k {
+        let broken = breaking(s, i % n, delay, table);
+        total = total + broken.figure.0;
+        i += 1;
+    }
+    total
+}
+
+// A text read, and k breaking calls of its study, going round over the buses up to `last`.
+#[no_mangle]
+pub extern "C" fn network_breakings(
+    text: &[u8],
+    last: u8,
+    delay: u32,
+    table: &mut [f64],
+    k: u32,
+) -> f64
+    ensures { λ r. ⌜ brokenTimes (readOf (now (text .entry)) .network) (last + 1) delay (now (table .entry)) k ≡ (now (table .exit), r) ⌝ }
+{
+    let reading = reader::read(text);
+    let n = last as u32 + 1;
+    breakings(reading.study, n, delay, table, k)
 }
