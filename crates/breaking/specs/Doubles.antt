@@ -29,26 +29,27 @@ amperesUp n = (n + 4095) / 4096
 
 -- the ground of the call, by that of a query
 unfoldable pub numberAfter : ℕ → ℕ → ℕ → ℕ → ℕ
-numberAfter found delay total room = cond (eqb found 0) (cond (delayOk delay) (cond (ltb room (2 * total)) 30 0) 31) found
+numberAfter found delay sources room = cond (eqb found 0) (cond (delayOk delay) (cond (ltb room (2 * sources)) 30 0) 31) found
 
--- what a source adds: its two numbers of the table, and its steps in the sum; k its strength, ρ and D the ratios and dividers of the way to it
+-- what a source adds: its two numbers of the table, and its steps in the sum; by its strength, and the ratio back and the divider of the way
+-- to it
 unfoldable pub generatorPart : ℕ → Float → Float → Float → Source → Part
-generatorPart delay k ρ D p =
-    let r = shareSteps k ρ D in
-    record { lower = ofNat (underRoot r / 4096); upper = ofNat (amperesUp (r + 1)); steps = weighed (muBy delay (ratedSteps k ρ D (p .f1) (p .f2))) (r + 1) }
+generatorPart delay strength back divider p =
+    let r = shareSteps strength back divider in
+    record { lower = ofNat (underRoot r / 4096); upper = ofNat (amperesUp (r + 1)); steps = weighed (muBy delay (ratedSteps strength back divider (p .f1) (p .f2))) (r + 1) }
 
 unfoldable pub partBy : ℕ → Float → Float → Float → Source → Part
-partBy delay k ρ D p =
-    cond (isGenerator p) (generatorPart delay k ρ D p)
+partBy delay strength back divider p =
+    cond (isGenerator p) (generatorPart delay strength back divider p)
     (cond (isConverter p) (record { lower = nought; upper = nought; steps = 0 })
-    (record { lower = nought; upper = nought; steps = shareSteps k ρ D + 1 }))
+    (record { lower = nought; upper = nought; steps = shareSteps strength back divider + 1 }))
 
 -- of a source, by the ways from the queried bus
 unfoldable pub partOf : ℕ → ℕ → Float → List ℕ → List Float → List Float → Source → Part
 partOf tolerance delay drive volts ratios dividers p =
     partBy delay (strengthBy drive (admittanceBy tolerance (numberAt volts (p .bus)) p)) (factorAt ratios (p .bus)) (factorAt dividers (p .bus)) p
 
--- (c·Un)²/3 in steps, by the nominal volts
+-- 2 ^ 24·(c·Un)²/3, by the nominal volts
 abbrev pub drivenBy : ℕ → ℕ → Float
 drivenBy tolerance volts = driveBy (factorC tolerance volts * volts)
 

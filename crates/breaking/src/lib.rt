@@ -1,4 +1,5 @@
-// Breaking current of a bus (document 02, order 3): what a breaker meets that opens after a minimum delay, and each generator's share.
+// Breaking current Ib of a bus (document 02, order 3): what a breaker meets that opens after a minimum time delay, and each generator's
+// share in it.
 ghost use mathlib.Core.Path.{_≡_};
 ghost use Prim.Native.Nat.{_≤_};
 ghost use lib.ListN.{length};
@@ -35,15 +36,15 @@ fn delay_ok(delay: u32) -> bool
 }
 
 // The ground on which the call is refused, 0 where it is accepted: that of a query, then the delay, then the room of the table.
-fn number_after(found: u32, delay: u32, total: usize, room: usize) -> u32
-    requires { ⌜ total ≤ maxSources ⌝ }
-    ensures { λ r. ⌜ r ≡ numberAfter found delay total room ⌝ }
+fn number_after(found: u32, delay: u32, sources: usize, room: usize) -> u32
+    requires { ⌜ sources ≤ maxSources ⌝ }
+    ensures { λ r. ⌜ r ≡ numberAfter found delay sources room ⌝ }
 {
     if found != 0 {
         return found;
     }
     if delay_ok(delay) {
-        if room < 2 * total { 30 } else { 0 }
+        if room < 2 * sources { 30 } else { 0 }
     } else {
         31
     }

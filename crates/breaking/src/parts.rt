@@ -4,8 +4,8 @@ ghost use Prim.Native.Nat.{_*_, _^_, _≤_, _<_};
 ghost use Rattle.elements.specs.Factors.{factorC};
 ghost use Rattle.tree.specs.Ways.{driveBy, strengthBy, shareSteps, ratedSteps};
 ghost use Rattle.breaking.specs.Doubles.{weighed, amperesUp, generatorPart, partBy};
-use elements::breaking::factor_of;
 use elements::factors::voltage_factor;
+use elements::mu::mu_of;
 use enclosure::Complex;
 use enclosure::roots::root_fine;
 use enclosure::roots::under_root;
@@ -26,18 +26,19 @@ pub(crate) fn amperes_up(steps: u64) -> u64
     (steps + 4095) / 4096
 }
 
-// (c·Un)²/3 of the queried bus, in steps: by its nominal volts.
+// 2^24·(c·Un)²/3 of the queried bus, by its nominal volts: a root of it counts in steps of 1/4,096 A.
 pub(crate) fn drive(tolerance: u32, volts: u32) -> f64
     ensures { λ r. ⌜ r ≡ driveBy (factorC tolerance volts * volts) ⌝ }
 {
     let c = voltage_factor(tolerance, volts) as u64;
     let v = (c * (volts as u64)) as f64;
-    let steps: u32 = 16777216;
-    let thirds: u32 = 30000;
-    v * v * (steps as f64 / thirds as f64)
+    // 4,096² over 3·100², since v is in hundredths
+    let over: u32 = 16777216;
+    let under: u32 = 30000;
+    v * v * (over as f64 / under as f64)
 }
 
-// That times the square of a machine's admittance.
+// A machine's strength: that times the square of its admittance.
 pub(crate) fn strength(drive: f64, y: Complex) -> f64
     ensures { λ r. ⌜ r ≡ strengthBy drive y ⌝ }
 {
@@ -56,8 +57,8 @@ fn share_steps(k: f64, ratio: f64, divider: f64) -> u64
 fn rated_steps(k: f64, ratio: f64, divider: f64, volts: u32, kva: u32) -> u64
     ensures { λ r. ⌜ r ≡ ratedSteps k ratio divider volts kva ⌝ }
 {
-    let hundreds = 100 * (kva as u64);
-    let t = ratio * (volts as f64 / hundreds as f64);
+    let hundred_kva = 100 * (kva as u64);
+    let t = ratio * (volts as f64 / hundred_kva as f64);
     let three: u32 = 3;
     let one: u32 = 1;
     root_fine(k * (t * t) * (three as f64 / one as f64) * divider)
@@ -83,7 +84,7 @@ fn generator_part(delay: u32, k: f64, ratio: f64, divider: f64, p: Source) -> Pa
     Part {
         lower: lower as f64,
         upper: upper as f64,
-        steps: weigh(factor_of(delay, q), r + 1),
+        steps: weigh(mu_of(delay, q), r + 1),
     }
 }
 

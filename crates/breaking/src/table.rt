@@ -53,14 +53,14 @@ pub(crate) fn lay_shares(s: Study, b: usize, delay: u32, table: &mut [f64]) -> u
     let tolerance = tolerance_of(s);
     let sources = sources_of(s);
     let total = source_total(s);
-    let drive = drive(tolerance, number_at(&ways.volts, b));
+    let driven = drive(tolerance, number_at(&ways.volts, b));
     let mut steps = 0u64;
     let mut j: usize = 0;
     while j < total {
         let part = part_of(
             tolerance,
             delay,
-            drive,
+            driven,
             &ways.volts,
             &ways.reach.ratios,
             &ways.reach.dividers,

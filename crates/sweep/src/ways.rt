@@ -1,4 +1,4 @@
-// Ways between two buses: how a current divides over each branch, and products over the branches between the two.
+// Ways between two buses: what of a voltage is left behind each branch, and products over the branches between the two.
 ghost use mathlib.Core.Path.{_≡_};
 ghost use Prim.Native.Nat.{min};
 ghost use Rattle.enclosure.specs.Doubles.{floored};
@@ -17,8 +17,11 @@ use enclosure::add;
 use enclosure::inverse;
 use enclosure::is_nothing;
 
-// Of one branch: the square by which a current divides over it, and the rated ratio by which a current is carried over it, each towards
-// bus 0 and away from it.
+// The bits of 2^-120: no product of dividers falls below it.
+const FAINTEST: u64 = 0x3870_0000_0000_0000;
+
+// Of one branch, for a way over it towards bus 0 (up) or away from bus 0 (down): the square of the part of a voltage that is left behind it,
+// and the rated ratio by which a current is carried back against the way.
 pub struct Crossing {
     pub divider_up: f64,
     pub divider_down: f64,
@@ -172,7 +175,7 @@ pub fn reach_of<'a>(
 ) -> Reach
     ensures { λ r. ⌜ r ≡ reachOf (numberAt (now (parents .entry))) (factorAt (now («divider_up» .entry))) (factorAt (now («divider_down» .entry))) (factorAt (now («ratio_up» .entry))) (factorAt (now («ratio_down» .entry))) b (min n maxBuses) ⌝ }
 {
-    let least = f64::from_bits(0x3870_0000_0000_0000);
+    let least = f64::from_bits(FAINTEST);
     let mut dividers = [1.0; BUSES];
     let mut ratios = [1.0; BUSES];
     let m = clamped(n);

@@ -36,20 +36,20 @@ int-to-float-t12 c =
     let a = c .before .before in
     le→leb (a .amperes-up .result) (2 ^ 53) (omega (arith, a .amperes-up .ensures, a .before .before .before .share-steps .ensures .1))
 
-factor-of-requires : tie.Need-factor-of-requires
-factor-of-requires c κs = search needs
+mu-of-requires : tie.Need-factor-of-requires
+mu-of-requires c κs = search needs
 
 add-weigh : tie.Need-add-weigh
 add-weigh c = search needs
 
 weigh-requires : tie.Need-weigh-requires
-weigh-requires c κs = (omega (arith, c .before .before .before .before .before .before .share-steps .ensures .1), rw (c .factor-of .ensures) (mu-by-most _ _))
+weigh-requires c κs = (omega (arith, c .before .before .before .before .before .before .share-steps .ensures .1), rw (c .mu-of .ensures) (mu-by-most _ _))
 
 returns : tie.Need-returns
 unfolding generatorPart
 returns c =
     let u = c .before .before .before .before .before in
-    rw (c .weigh .ensures, c .before .factor-of .ensures, c .before .before .before .before .amperes-up .ensures, u .under-root .ensures, u .before .rated-steps .ensures, u .before .before .share-steps .ensures .0)
+    rw (c .weigh .ensures, c .before .mu-of .ensures, c .before .before .before .before .amperes-up .ensures, u .under-root .ensures, u .before .rated-steps .ensures, u .before .before .share-steps .ensures .0)
 
 pub generator-part-spec : {M : Type 1} → statement M
 generator-part-spec =
@@ -62,7 +62,7 @@ generator-part-spec =
     amperes-up-requires
     int-to-float-t11
     int-to-float-t12
-    factor-of-requires
+    mu-of-requires
     add-weigh
     weigh-requires
     returns)

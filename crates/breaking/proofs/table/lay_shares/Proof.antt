@@ -23,14 +23,14 @@ abbrev partBy : ℕ → ℕ → Float → Ways → Source → Part
 partBy tolerance delay drive ways = partOf tolerance delay drive (ways .volts) (ways .reach .ratios) (ways .reach .dividers)
 
 abbrev Inv-loop : tie.InvT-loop
-Inv-loop b delay table₀ ways tolerance sources total drive steps₀ j₀ table steps j =
+Inv-loop b delay table₀ ways tolerance sources total driven steps₀ j₀ table steps j =
     (j ≤ total)
     × ((length sources ≡ maxSources) × (total ≤ maxSources) × (2 * total ≤ length table₀) × (length table ≡ length table₀))
-    × (table ≡ sets table₀ 0 (tableOf (partBy tolerance delay drive ways) (take j (take total sources))))
-    × (steps ≡ stepsFrom (partBy tolerance delay drive ways) 0 (take j (take total sources)))
+    × (table ≡ sets table₀ 0 (tableOf (partBy tolerance delay driven ways) (take j (take total sources))))
+    × (steps ≡ stepsFrom (partBy tolerance delay driven ways) 0 (take j (take total sources)))
 
 abbrev μ-loop : tie.MeasureT-loop
-μ-loop b delay table₀ ways tolerance sources total drive steps₀ j₀ table steps j = total - j
+μ-loop b delay table₀ ways tolerance sources total driven steps₀ j₀ table steps j = total - j
 
 ways-from-requires : tie.Need-ways-from-requires Inv-loop μ-loop
 ways-from-requires c κs = search needs

@@ -1,4 +1,4 @@
--- `elements::breaking::factor_of` meets its contract: the test of `muBy`, and its entry. Assumes nothing.
+-- `elements::mu::mu_of` meets its contract: the test of `muBy`, and its entry. Assumes nothing.
 use Prim.Native.Nat.{ℕ, _/_, min, _≤_, _<_}
 use mathlib.Core.Path.{_≡_, _∙_}
 use native.Mathlib.Omega.{arith}
@@ -7,8 +7,8 @@ use borrow.Author.Tests.{le-leb, lt-leb}
 use Rattle.enclosure.specs.Doubles.{underRoot}
 use Rattle.elements.specs.BreakingFactor.{muOf}
 use Rattle.elements.specs.Doubles.{muBy}
-use Rattle.elements.proofs.breaking.factor_of.Statement.{statement}
-use Rattle.elements.proofs.breaking.factor_of.Tie as tie
+use Rattle.elements.proofs.mu.mu_of.Statement.{statement}
+use Rattle.elements.proofs.mu.mu_of.Tie as tie
 
 -- u is what r is at least: 1 up to 2, and the entry that is read past it
 one : (delay r u : ℕ) → u ≡ underRoot r → u ≤ 81920 → 1000 ≡ muBy delay r
@@ -25,24 +25,24 @@ under-root-requires c κs = search needs
 returns : tie.Need-returns
 returns c = let s = c .before .before in one (s .args .delay) (s .args .steps) _ (c .before .under-root .ensures) (omega arith)
 
-cast-breaking-factor : tie.Need-cast-breaking-factor
-cast-breaking-factor c = search needs
+cast-mu-at : tie.Need-cast-mu-at
+cast-mu-at c = search needs
 
-breaking-factor-requires : tie.Need-breaking-factor-requires
-breaking-factor-requires c κs = search needs
+mu-at-requires : tie.Need-mu-at-requires
+mu-at-requires c κs = search needs
 
-breaking-factor-requires-2 : tie.Need-breaking-factor-requires-2
-breaking-factor-requires-2 c κs = search needs
+mu-at-requires-2 : tie.Need-mu-at-requires-2
+mu-at-requires-2 c κs = search needs
 
 returns-2 : tie.Need-returns-2
 returns-2 c =
     let u = c .before .before .before in
-    c .breaking-factor .ensures ∙ entry (u .before .args .delay) (u .before .args .steps) _ _ (u .under-root .ensures) (omega arith) (omega arith)
+    c .mu-at .ensures ∙ entry (u .before .args .delay) (u .before .args .steps) _ _ (u .under-root .ensures) (omega arith) (omega arith)
 
 returns-3 : tie.Need-returns-3
 returns-3 c =
     let u = c .before .before .before in
     c .breaking-factor2 .ensures ∙ entry (u .before .args .delay) (u .before .args .steps) _ 100 (u .under-root .ensures) (omega arith) (omega arith)
 
-pub factor-of-spec : {M : Type 1} → statement M
-factor-of-spec = tie.close (tie.spec under-root-requires returns cast-breaking-factor breaking-factor-requires breaking-factor-requires-2 returns-2 returns-3)
+pub mu-of-spec : {M : Type 1} → statement M
+mu-of-spec = tie.close (tie.spec under-root-requires returns cast-mu-at mu-at-requires mu-at-requires-2 returns-2 returns-3)

@@ -1,8 +1,8 @@
--- `elements::breaking::first` meets its contract: the three tests of `firstOf`. Assumes nothing.
+-- `elements::mu::first` meets its contract: the three tests of `firstOf`. Assumes nothing.
 use borrow.Author.Tests.{eq-eqb, ne-eqb}
 use Rattle.elements.specs.Doubles.{firstOf}
-use Rattle.elements.proofs.breaking.first.Statement.{statement}
-use Rattle.elements.proofs.breaking.first.Tie as tie
+use Rattle.elements.proofs.mu.first.Statement.{statement}
+use Rattle.elements.proofs.mu.first.Tie as tie
 
 returns : tie.Need-returns
 unfolding firstOf

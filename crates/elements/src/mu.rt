@@ -19,7 +19,7 @@ fn first(delay: u32) -> u32
 }
 
 // μ in thousandths, by the delay in milliseconds and q in tenths; past the end of the table its last entry.
-pub fn breaking_factor(delay: u32, i: u32) -> u32
+pub fn mu_at(delay: u32, i: u32) -> u32
     ensures { λ r. ⌜ r ≡ muOf delay (min i 100) ⌝ }
 {
     let start = first(delay);
@@ -30,8 +30,9 @@ pub fn breaking_factor(delay: u32, i: u32) -> u32
     }
 }
 
-// μ in thousandths from q as it is calculated, in steps of 1/40,960, by what q is at least.
-pub fn factor_of(delay: u32, steps: u64) -> u32
+// μ in thousandths by q in steps of 1/40,960, of which 81,920 are 2 and 4,096 a tenth: by the least that q can be, so that μ is never
+// too low.
+pub fn mu_of(delay: u32, steps: u64) -> u32
     ensures { λ r. ⌜ r ≡ muBy delay steps ⌝ }
 {
     let least = under_root(steps);
@@ -40,9 +41,9 @@ pub fn factor_of(delay: u32, steps: u64) -> u32
     }
     let i = least / 4_096;
     if i < 100 {
-        breaking_factor(delay, i as u32)
+        mu_at(delay, i as u32)
     } else {
-        breaking_factor(delay, 100)
+        mu_at(delay, 100)
     }
 }
 

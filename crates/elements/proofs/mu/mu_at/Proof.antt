@@ -1,4 +1,4 @@
--- `elements::breaking::breaking_factor` meets its contract: the table's rule, at i or at 100. Assumes nothing.
+-- `elements::mu::mu_at` meets its contract: the table's rule, at i or at 100. Assumes nothing.
 use Prim.Native.Nat.{ℕ, _+_, min, _<_}
 use mathlib.Core.Path.{_≡_, ap, sym, _∙_}
 use native.Mathlib.Nat.{min-eq-left, min-eq-right}
@@ -8,8 +8,8 @@ use borrow.Author.Needs.{needs}
 use Rattle.elements.specs.BreakingFactor.{muOf}
 use Rattle.elements.specs.Doubles.{firstOf}
 use Rattle.elements.specs.laws.BreakingFactor.{mus, mu-rule, first-most}
-use Rattle.elements.proofs.breaking.breaking_factor.Statement.{statement}
-use Rattle.elements.proofs.breaking.breaking_factor.Tie as tie
+use Rattle.elements.proofs.mu.mu_at.Statement.{statement}
+use Rattle.elements.proofs.mu.mu_at.Tie as tie
 
 -- the entry that is read
 entry : (delay s i k : ℕ) → s ≡ firstOf delay → i < 101 → min k 100 ≡ i → getD mus (s + i) 0 ≡ muOf delay (min k 100)
@@ -48,7 +48,7 @@ returns c = entry (c .before .before .args .delay) _ (c .before .before .args .i
 returns-2 : tie.Need-returns-2
 returns-2 c = entry (c .before .before .args .delay) _ 100 (c .before .before .args .i) (c .before .first .ensures) (omega arith) (min-eq-right (omega arith))
 
-pub breaking-factor-spec : {M : Type 1} → statement M
-breaking-factor-spec =
+pub mu-at-spec : {M : Type 1} → statement M
+mu-at-spec =
     tie.close
     (tie.spec first-requires add-result cast-result mul-result array-read-result add-result-2 cast-result-2 mul-result-2 array-read-result-2 returns returns-2)
