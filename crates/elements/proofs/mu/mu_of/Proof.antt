@@ -42,7 +42,7 @@ returns-2 c =
 returns-3 : tie.Need-returns-3
 returns-3 c =
     let u = c .before .before .before in
-    c .breaking-factor2 .ensures ∙ entry (u .before .args .delay) (u .before .args .steps) _ 100 (u .under-root .ensures) (omega arith) (omega arith)
+    c .mu-at2 .ensures ∙ entry (u .before .args .delay) (u .before .args .steps) _ 100 (u .under-root .ensures) (omega arith) (omega arith)
 
 pub mu-of-spec : {M : Type 1} → statement M
 mu-of-spec = tie.close (tie.spec under-root-requires returns cast-mu-at mu-at-requires mu-at-requires-2 returns-2 returns-3)
