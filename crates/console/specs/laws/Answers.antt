@@ -102,7 +102,7 @@ pub few-fit : (k : ℕ) (numbers : List Float) → length (numbersText (fewOf k 
 unfolding fewOf
 few-fit k numbers = omega (arith, numbers-length (fewOf k numbers), length-take few (drop (k * few) numbers))
 
-numbers-both : (a b : List Float) → numbersText (a ++ b) ≡ numbersText a ++ numbersText b
+pub numbers-both : (a b : List Float) → numbersText (a ++ b) ≡ numbersText a ++ numbersText b
 unfolding numbersText
 numbers-both [] b = refl
 numbers-both (x ∷ a) b = rw (numbers-both a b, append-assoc)
