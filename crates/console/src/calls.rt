@@ -1,5 +1,5 @@
-// The calls. Each takes the study and what stands after its word, and makes a turn. Where a text or a table is lent, its length is a hypothesis: of an
-// array behind a reference the prover does not know it by itself.
+// The calls. Each takes the study and what stands after its word, and makes a turn. Where a text or a table is lent, its length is a
+// hypothesis: of an array behind a reference the prover does not know it by itself.
 ghost use mathlib.Core.Path.{_≡_};
 ghost use Prim.Native.Nat.{ℕ};
 ghost use mathlib.Core.List.{List};

@@ -1,5 +1,5 @@
--- THE ANSWER TO `breaking`: for whatever calls made the study, its decimals are those of the whole numbers that keep order 3, the figure and
--- each source's two bounds in source order, and behind these stand the numbers that were lent. Assumes nothing.
+-- THE ANSWER TO `breaking`: the decimals of an accepted call are those of the whole numbers that keep order 3, the figure and each source's
+-- two bounds in source order, and behind these stand the numbers as they were lent. Assumes nothing.
 use Prim.Native.Nat.{ℕ, zero, suc, _+_, _*_, _^_, _≤_, _<_}
 use mathlib.Core.Path.{_≡_, refl, sym, _∙_, ap}
 use mathlib.Core.List.{List, [], _∷_, _++_, append-nil}
@@ -43,6 +43,7 @@ module _ (n : Network) (b delay : ℕ) (lent table : List Float) (figure : Float
       ∙ numbers-both (take (2 * k) table) (take 2 (drop (2 * k) table))
       ∙ rw (two, two-whole (h .lower k) (h .upper k) (omega arith) (omega arith), first-bounds k (omega arith))
 
+  -- what `breaking` promises of an accepted call
   pub breaking-line-holds : brokenLine 0 figure table
       ≡ (decimal 0 ++ nextText (h .amperes)) ++ (boundsText (h .lower) (h .upper) (length (n .sources)) ++ numbersText (drop (2 * length (n .sources)) lent)) ++ (lf ∷ [])
   unfolding brokenLine brokenHead
