@@ -4,6 +4,8 @@ use mathlib.Core.Bool.{cond}
 use mathlib.Core.List.{List, [], _∷_, _++_}
 use lib.Dec.{ltb}
 use lib.ListN.{take, drop}
+use lib.Ieee.{Float}
+use Rattle.enclosure.specs.Exact.{ofNat}
 use Rattle.network.specs.declared.query.Found.{Found}
 use Rattle.printing.specs.Printed.{wholeOf, amountOf, decimal, nextText, amperesText, letterText}
 use Rattle.reader.specs.File.{lf, comma}
@@ -65,3 +67,33 @@ chunkCount count = count / chunk + 1
 -- the bytes of one of them, counted from 0
 unfoldable pub chunkOf : ℕ → List ℕ → List ℕ
 chunkOf k bytes = take chunk (drop (k * chunk) bytes)
+
+-- ---- the answer to `breaking`, of any length too
+-- "each number is 7 before the call"
+abbrev pub tableFiller : Float
+tableFiller = ofNat 7
+
+-- "the number and FIGURE"
+unfoldable pub brokenHead : ℕ → Float → List ℕ
+brokenHead number figure = decimal number ++ nextText (wholeOf figure)
+
+-- "all ROOM lent numbers", each behind a comma; of none nothing follows FIGURE
+unfoldable pub numbersText : List Float → List ℕ
+numbersText [] = []
+numbersText (x ∷ numbers) = nextText (wholeOf x) ++ numbersText numbers
+
+-- "the number, FIGURE and all ROOM lent numbers"
+unfoldable pub brokenLine : ℕ → Float → List Float → List ℕ
+brokenLine number figure lent = brokenHead number figure ++ numbersText lent ++ (lf ∷ [])
+
+-- how many numbers fill a line
+abbrev pub few : ℕ
+few = 12
+
+-- how many times a few so many numbers are; the last may be none
+abbrev pub fewCount : ℕ → ℕ
+fewCount count = count / few + 1
+
+-- a few of them, counted from 0
+unfoldable pub fewOf : ℕ → List Float → List Float
+fewOf k numbers = take few (drop (k * few) numbers)

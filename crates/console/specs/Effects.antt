@@ -5,6 +5,7 @@ use mathlib.Core.Bool.{Bool, cond, _&&_, _||_}
 use mathlib.Core.List.{List, [], _∷_}
 use lib.Dec.{leb, ltb, eqb}
 use lib.ListN.{length, take, drop, getD, replicate}
+use lib.Ieee.{Float}
 use Rattle.network.specs.Network.{Network, network}
 use Rattle.network.specs.Grounds.{startNumber, startNetwork, busNumber, afterBus, sourceNumber, afterSource, closeNumber, afterClose}
 use Rattle.network.specs.Query.{foundGiven}
@@ -12,12 +13,14 @@ use Rattle.reader.specs.declared.Numbers.{Numbers}
 use Rattle.reader.specs.File.{mostFields, busCountOk, sourceCountOk, fields, busOf, sourceOf, Outcome, readOf}
 use Rattle.reader.specs.Collected.{collected}
 use Rattle.writer.specs.Writing.{writeNumber, writeLength, afterWrite}
+use Rattle.breaking.specs.Breaking.{breakingNumber, figureAfter, tableAfter}
+use Rattle.breaking.specs.Doubles.{partAt, tableOf, figureAt}
 use Rattle.console.specs.declared.turns.Reason.{Reason}
 use Rattle.console.specs.declared.turns.Reason.the-variants.{Fields, Number, Hex, Room, Unknown, Long}
 use Rattle.console.specs.declared.turns.Reply.{Reply}
-use Rattle.console.specs.declared.turns.Reply.the-variants.{Ground, Reading, Found, Written, Error}
+use Rattle.console.specs.declared.turns.Reply.the-variants.{Ground, Reading, Found, Written, Breaking, Error}
 use Rattle.console.specs.declared.turns.Turn.{Turn}
-use Rattle.console.specs.Answers.{errorLine, numberLine, readingLine, foundLine, writtenLine, filler}
+use Rattle.console.specs.Answers.{errorLine, numberLine, readingLine, foundLine, writtenLine, brokenLine, filler, tableFiller}
 use Rattle.console.specs.Lines.{beginsWith, isWord, hexPairs, hexBytes}
 
 pub record Effect : Type 0 where
@@ -34,16 +37,22 @@ reasonText Room = 114 ∷ 111 ∷ 111 ∷ 109 ∷ []
 reasonText Unknown = 117 ∷ 110 ∷ 107 ∷ 110 ∷ 111 ∷ 119 ∷ 110 ∷ 32 ∷ 99 ∷ 97 ∷ 108 ∷ 108 ∷ []
 reasonText Long = 108 ∷ 105 ∷ 110 ∷ 101 ∷ 32 ∷ 116 ∷ 111 ∷ 111 ∷ 32 ∷ 108 ∷ 111 ∷ 110 ∷ 103 ∷ []
 
--- the line of a reply; of a writing it ends with the first bytes of the lent text
-abbrev pub replyLine : List ℕ → Reply → List ℕ
-replyLine text (Ground number) = numberLine number
-replyLine text (Reading number row) = readingLine number row
-replyLine text (Found found) = foundLine found
-replyLine text (Written number size count) = writtenLine number size (take count text)
-replyLine text (Error reason) = errorLine (reasonText reason)
+-- what calls are lent: the text of a writing, and the table of a breaking current
+abbrev pub Lent : Type 0
+Lent = List ℕ × List Float
 
-abbrev pub effectOf : List ℕ → Turn → Effect
-effectOf text t = record { answer = replyLine text (t .reply); network = network (t .study) }
+-- the line of a reply; of a writing it ends with the first bytes of the lent text, of a breaking current with the first numbers of the
+-- lent table
+abbrev pub replyLine : Lent → Reply → List ℕ
+replyLine lent (Ground number) = numberLine number
+replyLine lent (Reading number row) = readingLine number row
+replyLine lent (Found found) = foundLine found
+replyLine lent (Written number size count) = writtenLine number size (take count (lent .0))
+replyLine lent (Breaking number figure count) = brokenLine number figure (take count (lent .1))
+replyLine lent (Error reason) = errorLine (reasonText reason)
+
+abbrev pub effectOf : Lent → Turn → Effect
+effectOf lent t = record { answer = replyLine lent (t .reply); network = network (t .study) }
 
 -- ---- the lines of README's table
 -- "`error,` and a reason; nothing is changed"
@@ -117,6 +126,18 @@ writeBy n v = cond (leb (getD v 0 0) 70000) (writeInto n (getD v 0 0)) (wrong Ro
 abbrev pub writeEffect : Network → List ℕ → Effect
 writeEffect n rest = numbered (exactly 1) (writeBy n) n (collected (fields rest))
 
+-- "`breaking,BUS,DELAY,ROOM`": "all ROOM lent numbers"; "each number is 7 before the call"; "ROOM is at most 1,100"
+unfoldable pub breakInto : Network → ℕ → ℕ → ℕ → Effect
+breakInto n bus delay room =
+    let number = breakingNumber n bus delay room in
+    record { answer = brokenLine number (figureAfter number (figureAt n bus delay)) (tableAfter number (tableOf (partAt n bus delay) (n .sources)) (replicate room tableFiller)); network = n }
+
+abbrev pub breakingBy : Network → List ℕ → Effect
+breakingBy n v = cond (leb (getD v 2 0) 1100) (breakInto n (getD v 0 0) (getD v 1 0) (getD v 2 0)) (wrong Room n)
+
+abbrev pub breakingEffect : Network → List ℕ → Effect
+breakingEffect n rest = numbered (exactly 3) (breakingBy n) n (collected (fields rest))
+
 -- the bytes of the words, each with its comma but `close`
 abbrev pub startWord : List ℕ
 startWord = 115 ∷ 116 ∷ 97 ∷ 114 ∷ 116 ∷ 44 ∷ []
@@ -139,6 +160,9 @@ readWord = 114 ∷ 101 ∷ 97 ∷ 100 ∷ 44 ∷ []
 abbrev pub writeWord : List ℕ
 writeWord = 119 ∷ 114 ∷ 105 ∷ 116 ∷ 101 ∷ 44 ∷ []
 
+abbrev pub breakingWord : List ℕ
+breakingWord = 98 ∷ 114 ∷ 101 ∷ 97 ∷ 107 ∷ 105 ∷ 110 ∷ 103 ∷ 44 ∷ []
+
 -- THE EFFECT OF A LINE: by the word that it begins with, and what stands behind that
 abbrev pub behind : List ℕ → List ℕ → List ℕ
 behind word line = drop (length word) line
@@ -152,7 +176,8 @@ callEffect n line =
     (cond (beginsWith queryWord line) (queryEffect n (behind queryWord line))
     (cond (beginsWith readWord line) (readEffect n (behind readWord line))
     (cond (beginsWith writeWord line) (writeEffect n (behind writeWord line))
-    (wrong Unknown n)))))))
+    (cond (beginsWith breakingWord line) (breakingEffect n (behind breakingWord line))
+    (wrong Unknown n))))))))
 
 -- "an input line has at most 140,000 bytes"
 unfoldable pub lineEffect : Network → List ℕ → Effect

@@ -2,3 +2,4 @@ pub mod Answers
 pub mod AnswersLaw
 pub mod Lines
 pub mod EffectsLaw
+pub mod BreakingAnswers

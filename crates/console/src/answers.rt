@@ -9,6 +9,9 @@ ghost use Rattle.console.specs.Effects.{reasonText};
 use crate::hex::TEXT;
 use crate::hex::text_of;
 use crate::parts::print_written;
+use crate::tables::TABLE;
+use crate::tables::first_numbers;
+use crate::tables::print_broken;
 use crate::turns::Reason;
 use crate::turns::Reply;
 use libc::STDOUT_FILENO;
@@ -100,13 +103,16 @@ fn print_found(found: Found) {
     io::write_all(STDOUT_FILENO, written(&line, end));
 }
 
-// Writes the reply; of a writing it ends with the bytes that were lent.
-pub(crate) fn print_reply(reply: Reply, text: &[u8; TEXT]) {
+// Writes the reply; of a writing it ends with the bytes that were lent, of a breaking current with the numbers that were lent.
+pub(crate) fn print_reply(reply: Reply, text: &[u8; TEXT], table: &[f64; TABLE]) {
     match reply {
         Reply::Ground(number) => print_number(number),
         Reply::Reading(number, row) => print_reading(number, row),
         Reply::Found(found) => print_found(found),
         Reply::Written(number, size, count) => print_written(number, size, text_of(text, count)),
+        Reply::Breaking(number, figure, count) => {
+            print_broken(number, figure, first_numbers(table, count))
+        }
         Reply::Error(reason) => print_error(reason),
     }
 }

@@ -1,17 +1,22 @@
-// The calls. Each takes the study and what stands after its word, and makes a turn. Where a text is lent, its length is a hypothesis: of an
-// array behind a reference the prover does not know it by itself.
+// The calls. Each takes the study and what stands after its word, and makes a turn. Where a text or a table is lent, its length is a
+// hypothesis: of an array behind a reference the prover does not know it by itself.
 ghost use mathlib.Core.Path.{_≡_};
 ghost use Prim.Native.Nat.{ℕ};
 ghost use mathlib.Core.List.{List};
 ghost use lib.ListN.{length, replicate};
+ghost use lib.Ieee.{Float};
 ghost use Rattle.network.specs.Network.{network};
 ghost use Rattle.writer.specs.Writing.{writeNumber, writeLength, afterWrite};
-ghost use Rattle.console.specs.Answers.{filler};
-ghost use Rattle.console.specs.Effects.{effectOf, exactly, counted, reasonOf, startEffect, busEffect, sourceEffect, closeEffect, queryEffect, readEffect, writeEffect, callEffect};
+ghost use Rattle.breaking.specs.Breaking.{breakingNumber, figureAfter, tableAfter};
+ghost use Rattle.breaking.specs.Doubles.{partAt, tableOf, figureAt};
+ghost use Rattle.console.specs.Answers.{filler, tableFiller};
+ghost use Rattle.console.specs.Effects.{Lent, effectOf, exactly, counted, reasonOf, startEffect, busEffect, sourceEffect, closeEffect, queryEffect, readEffect, writeEffect, breakingEffect, callEffect};
 use crate::hex::Decoded;
 use crate::hex::TEXT;
 use crate::hex::decode;
 use crate::hex::text_of;
+use crate::tables::TABLE;
+use crate::tables::fill_table;
 use crate::turns::Reason;
 use crate::turns::Reply;
 use crate::turns::Turn;
@@ -20,6 +25,7 @@ use crate::turns::failed;
 use crate::words::after;
 use crate::words::begins;
 use crate::words::is;
+use breaking::Broken;
 use network::study::Study;
 use reader::MOST_FIELDS;
 use reader::Numbers;
@@ -48,7 +54,7 @@ fn reason_of(n: Numbers) -> Reason
 }
 
 fn make_start(s: Study, rest: &[u8]) -> Turn
-    ensures { λ r. ⌜ ((text : List ℕ) → effectOf text r ≡ startEffect (network s) (now (rest .entry))) ⌝ }
+    ensures { λ r. ⌜ ((lent : Lent) → effectOf lent r ≡ startEffect (network s) (now (rest .entry))) ⌝ }
 {
     let n = numbers_of(rest);
     let v = n.values;
@@ -59,7 +65,7 @@ fn make_start(s: Study, rest: &[u8]) -> Turn
 }
 
 fn make_bus(s: Study, rest: &[u8]) -> Turn
-    ensures { λ r. ⌜ ((text : List ℕ) → effectOf text r ≡ busEffect (network s) (now (rest .entry))) ⌝ }
+    ensures { λ r. ⌜ ((lent : Lent) → effectOf lent r ≡ busEffect (network s) (now (rest .entry))) ⌝ }
 {
     let n = numbers_of(rest);
     let v = n.values;
@@ -70,7 +76,7 @@ fn make_bus(s: Study, rest: &[u8]) -> Turn
 }
 
 fn make_source(s: Study, rest: &[u8]) -> Turn
-    ensures { λ r. ⌜ ((text : List ℕ) → effectOf text r ≡ sourceEffect (network s) (now (rest .entry))) ⌝ }
+    ensures { λ r. ⌜ ((lent : Lent) → effectOf lent r ≡ sourceEffect (network s) (now (rest .entry))) ⌝ }
 {
     let n = numbers_of(rest);
     let v = n.values;
@@ -81,14 +87,14 @@ fn make_source(s: Study, rest: &[u8]) -> Turn
 }
 
 fn make_close(s: Study) -> Turn
-    ensures { λ r. ⌜ ((text : List ℕ) → effectOf text r ≡ closeEffect (network s)) ⌝ }
+    ensures { λ r. ⌜ ((lent : Lent) → effectOf lent r ≡ closeEffect (network s)) ⌝ }
 {
     answered(network::calls::close(s))
 }
 
 fn make_query(s: Study, rest: &[u8]) -> Turn
     ensures study { λ r. ⌜ r .study ≡ s ⌝ }
-    ensures effect { λ r. ⌜ ((text : List ℕ) → effectOf text r ≡ queryEffect (network s) (now (rest .entry))) ⌝ }
+    ensures effect { λ r. ⌜ ((lent : Lent) → effectOf lent r ≡ queryEffect (network s) (now (rest .entry))) ⌝ }
 {
     let n = numbers_of(rest);
     let v = n.values;
@@ -103,7 +109,7 @@ fn make_query(s: Study, rest: &[u8]) -> Turn
 }
 
 fn make_read(s: Study, rest: &[u8], text: &mut [u8; TEXT]) -> Turn
-    ensures { λ r. ⌜ (length (now (text .entry)) ≡ 70000 → effectOf (now (text .exit)) r ≡ readEffect (network s) (now (rest .entry))) ⌝ }
+    ensures { λ r. ⌜ ((table : List Float) → length (now (text .entry)) ≡ 70000 → effectOf (now (text .exit), table) r ≡ readEffect (network s) (now (rest .entry))) ⌝ }
 {
     let decoded = decode(rest, text);
     let Decoded::Bytes(n) = decoded else {
@@ -140,7 +146,7 @@ fn write_into(s: Study, lent: &mut [u8]) -> Written
 // All lent bytes are answered, so that those that the call keeps are seen too.
 fn make_write(s: Study, rest: &[u8], text: &mut [u8]) -> Turn
     ensures study { λ r. ⌜ r .study ≡ s ⌝ }
-    ensures effect { λ r. ⌜ (length (now (text .entry)) ≡ 70000 → effectOf (now (text .exit)) r ≡ writeEffect (network s) (now (rest .entry))) ⌝ }
+    ensures effect { λ r. ⌜ ((table : List Float) → length (now (text .entry)) ≡ 70000 → effectOf (now (text .exit), table) r ≡ writeEffect (network s) (now (rest .entry))) ⌝ }
 {
     let n = numbers_of(rest);
     let v = n.values;
@@ -158,9 +164,44 @@ fn make_write(s: Study, rest: &[u8], text: &mut [u8]) -> Turn
     failed(s, reason_of(n))
 }
 
+fn break_into(s: Study, bus: u32, delay: u32, table: &mut [f64]) -> Broken
+    ensures number { λ r. ⌜ r .number ≡ breakingNumber (network s) bus delay (length (now (table .entry))) ⌝ }
+    ensures figure { λ r. ⌜ r .figure .0 ≡ figureAfter (r .number) (figureAt (network s) bus delay) ⌝ }
+    ensures table { λ r. ⌜ now (table .exit) ≡ tableAfter (r .number) (tableOf (partAt (network s) bus delay) (network s .sources)) (replicate (length (now (table .entry))) tableFiller) ⌝ }
+{
+    fill_table(table);
+    breaking::breaking(s, bus, delay, table)
+}
+
+// All lent numbers are answered, so that those that the call keeps are seen too.
+fn make_breaking(s: Study, rest: &[u8], table: &mut [f64]) -> Turn
+    ensures study { λ r. ⌜ r .study ≡ s ⌝ }
+    ensures effect { λ r. ⌜ ((text : List ℕ) → length (now (table .entry)) ≡ 1100 → effectOf (text, now (table .exit)) r ≡ breakingEffect (network s) (now (rest .entry))) ⌝ }
+{
+    let n = numbers_of(rest);
+    let v = n.values;
+    if takes(n, 3) {
+        let count = v[2] as usize;
+        if count <= table.len() {
+            let done = break_into(s, v[0], v[1], &mut table[0..count]);
+            return Turn {
+                reply: Reply::Breaking(done.number, done.figure.0, count),
+                study: s,
+            };
+        }
+        return failed(s, Reason::Room);
+    }
+    failed(s, reason_of(n))
+}
+
 // The turn of the call that a line names.
-pub(crate) fn make_call(s: Study, line: &[u8], text: &mut [u8; TEXT]) -> Turn
-    ensures { λ r. ⌜ (length (now (text .entry)) ≡ 70000 → effectOf (now (text .exit)) r ≡ callEffect (network s) (now (line .entry))) ⌝ }
+pub(crate) fn make_call(
+    s: Study,
+    line: &[u8],
+    text: &mut [u8; TEXT],
+    table: &mut [f64; TABLE],
+) -> Turn
+    ensures { λ r. ⌜ (length (now (text .entry)) ≡ 70000 → length (now (table .entry)) ≡ 1100 → effectOf (now (text .exit), now (table .exit)) r ≡ callEffect (network s) (now (line .entry))) ⌝ }
 {
     if begins(line, b"start,") {
         return make_start(s, after(line, 6));
@@ -182,6 +223,9 @@ pub(crate) fn make_call(s: Study, line: &[u8], text: &mut [u8; TEXT]) -> Turn
     }
     if begins(line, b"write,") {
         return make_write(s, after(line, 6), text);
+    }
+    if begins(line, b"breaking,") {
+        return make_breaking(s, after(line, 9), table);
     }
     failed(s, Reason::Unknown)
 }

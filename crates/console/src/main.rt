@@ -4,6 +4,7 @@ mod calls;
 mod hex;
 mod input;
 mod parts;
+mod tables;
 mod turns;
 mod words;
 
@@ -18,6 +19,7 @@ use input::LINE_ROOM;
 use input::bytes_of;
 use input::read_line;
 use network::study::Study;
+use tables::TABLE;
 use turns::Reason;
 use turns::Turn;
 use turns::failed;
@@ -26,19 +28,20 @@ use turns::failed;
 const LINE_BYTES: usize = 140_000;
 
 // The turn of a line.
-fn answer(s: Study, line: &[u8], text: &mut [u8; hex::TEXT]) -> Turn
-    ensures { λ r. ⌜ (length (now (text .entry)) ≡ 70000 → effectOf (now (text .exit)) r ≡ lineEffect (network s) (now (line .entry))) ⌝ }
+fn answer(s: Study, line: &[u8], text: &mut [u8; hex::TEXT], table: &mut [f64; TABLE]) -> Turn
+    ensures { λ r. ⌜ (length (now (text .entry)) ≡ 70000 → length (now (table .entry)) ≡ 1100 → effectOf (now (text .exit), now (table .exit)) r ≡ lineEffect (network s) (now (line .entry))) ⌝ }
 {
     if LINE_BYTES < line.len() {
         return failed(s, Reason::Long);
     }
-    make_call(s, line, text)
+    make_call(s, line, text, table)
 }
 
 fn main() {
     let mut block = [0u8; input::BLOCK];
     let mut line = [0u8; LINE_ROOM];
     let mut text = [0u8; hex::TEXT];
+    let mut table = [0.0; TABLE];
     let empty = network::calls::start(6);
     let mut study = empty.study;
     let mut cursor = Cursor { at: 0, filled: 0 };
@@ -50,9 +53,9 @@ fn main() {
             return;
         }
         cursor = got.cursor;
-        let turn = answer(study, bytes_of(&line, got.length), &mut text);
+        let turn = answer(study, bytes_of(&line, got.length), &mut text, &mut table);
         let reply = turn.reply;
-        print_reply(reply, &text);
+        print_reply(reply, &text, &table);
         study = turn.study;
     }
 }

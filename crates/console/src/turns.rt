@@ -1,9 +1,7 @@
 // What a line makes: the reply to it, and the study after it. A call makes a turn and writes nothing; `main` then writes the reply.
 ghost use mathlib.Core.Path.{_≡_};
 ghost use Rattle.network.specs.Network.{network};
-ghost use Rattle.console.specs.Effects.{effectOf, wrong, ground};
-ghost use Prim.Native.Nat.{ℕ};
-ghost use mathlib.Core.List.{List};
+ghost use Rattle.console.specs.Effects.{Lent, effectOf, wrong, ground};
 use network::calls::Answer;
 use network::query::Found;
 use network::study::Study;
@@ -18,12 +16,14 @@ pub(crate) enum Reason {
     Long,
 }
 
-// What a line is answered with. Of a writing: the number, the length of the text, and how many bytes were lent.
+// What a line is answered with. Of a writing: the number, the length of the text, and how many bytes were lent. Of a breaking
+// current: the number, the figure, and how many numbers were lent.
 pub(crate) enum Reply {
     Ground(u32),
     Reading(u32, u32),
     Found(Found),
     Written(u32, usize, usize),
+    Breaking(u32, f64, usize),
     Error(Reason),
 }
 
@@ -34,7 +34,7 @@ pub(crate) struct Turn {
 
 // The turn of a call that starts, adds or closes.
 pub(crate) fn answered(done: Answer) -> Turn
-    ensures { λ r. ⌜ ((text : List ℕ) → effectOf text r ≡ ground (done .number) (network (done .study))) ⌝ }
+    ensures { λ r. ⌜ ((lent : Lent) → effectOf lent r ≡ ground (done .number) (network (done .study))) ⌝ }
 {
     let study = done.study;
     Turn {
@@ -46,7 +46,7 @@ pub(crate) fn answered(done: Answer) -> Turn
 // The turn of a line that is no call: nothing is changed.
 pub(crate) fn failed(s: Study, reason: Reason) -> Turn
     ensures study { λ r. ⌜ r .study ≡ s ⌝ }
-    ensures effect { λ r. ⌜ ((text : List ℕ) → effectOf text r ≡ wrong reason (network s)) ⌝ }
+    ensures effect { λ r. ⌜ ((lent : Lent) → effectOf lent r ≡ wrong reason (network s)) ⌝ }
 {
     Turn {
         reply: Reply::Error(reason),

@@ -12,15 +12,15 @@ failed-requires c κs = search needs
 returns : tie.Need-returns
 returns c =
     let a = c .before .before .before .args in
-    λ h. c .failed .ensures .1 _ ∙ line-long (network (a .s)) (a .line .now) (c .before .if1 .taken)
+    λ h k. c .failed .ensures .1 _ ∙ line-long (network (a .s)) (a .line .now) (c .before .if1 .taken)
 
 make-call-requires : tie.Need-make-call-requires
 make-call-requires c κs = search needs
 
 returns-2 : tie.Need-returns-2
 returns-2 c =
-    let a = c .before .before .before .before .args in
-    λ h. c .make-call .ensures h ∙ line-call (network (a .s)) (a .line .now) (c .before .before .if1 .left)
+    let a = c .before .before .before .before .before .args in
+    λ h k. c .make-call .ensures h k ∙ line-call (network (a .s)) (a .line .now) (c .before .before .before .if1 .left)
 
 pub answer-spec : {M : Type 1} → statement M
 answer-spec = tie.close (tie.spec failed-requires returns make-call-requires returns-2)

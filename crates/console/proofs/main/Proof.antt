@@ -4,10 +4,10 @@ use Rattle.console.proofs.main.Statement.{statement}
 use Rattle.console.proofs.main.Tie as tie
 
 abbrev Inv-loop : tie.InvT-loop
-Inv-loop block₀ line₀ text₀ study₀ cursor₀ turns₀ block line text study cursor turns = Unit {0}
+Inv-loop block₀ line₀ text₀ table₀ study₀ cursor₀ turns₀ block line text table study cursor turns = Unit {0}
 
 abbrev μ-loop : tie.MeasureT-loop
-μ-loop block₀ line₀ text₀ study₀ cursor₀ turns₀ block line text study cursor turns = turns
+μ-loop block₀ line₀ text₀ table₀ study₀ cursor₀ turns₀ block line text table study cursor turns = turns
 
 start-requires : tie.Need-start-requires Inv-loop μ-loop
 start-requires c κs = search needs

@@ -3,15 +3,17 @@ use Prim.Native.Nat.{ℕ, zero, suc, _+_, _*_, _≤_}
 use native.Mathlib.Nat.{div-add-mod', mod-lt}
 use native.Mathlib.Omega.{arith}
 use mathlib.Core.Path.{_≡_, refl}
-use mathlib.Core.List.{List, [], _∷_, _++_}
+use mathlib.Core.List.{List, [], _∷_, _++_, append-assoc}
 use lib.ListN.{length, take, drop, length-append, length-take}
 use lib.Seq.{take-all, take-add}
+use lib.Ieee.{Float, lt, ofInt, toUnsigned}
+use Rattle.enclosure.specs.Exact.{ofNat}
 use Rattle.network.specs.declared.query.Found.{Found}
 use Rattle.printing.specs.Printed.{wholeOf, amountOf, decimal, nextText}
 use Rattle.printing.specs.laws.Printed.{decimal-length, next-length, amperes-length, letter-length}
 use Rattle.printing.specs.Line.{room}
 use Rattle.reader.specs.File.{lf}
-use Rattle.console.specs.Answers.{hexText, writtenLine, hexDigit, writtenHead, chunkOf, errorLine, numberLine, readingLine, foundLine, chunk, chunkCount}
+use Rattle.console.specs.Answers.{hexText, writtenLine, hexDigit, writtenHead, chunkOf, errorLine, numberLine, readingLine, foundLine, chunk, chunkCount, tableFiller, brokenHead, numbersText, brokenLine, few, fewCount, fewOf}
 
 -- CR, LF and 0x55 are `0d0a55`; a closed study with no byte lent is `30,0,`
 worked : (hexText (13 ∷ 10 ∷ 85 ∷ []) ≡ 48 ∷ 100 ∷ 48 ∷ 97 ∷ 53 ∷ 53 ∷ []) × (writtenLine 30 0 [] ≡ 51 ∷ 48 ∷ 44 ∷ 48 ∷ 44 ∷ 10 ∷ [])
@@ -75,3 +77,46 @@ unfolding writtenLine
 parts-joined number size lent =
     let n = length lent in
     rw (first-chunks (chunkCount n) lent, take-all (chunkCount n * chunk) lent (omega (arith, div-add-mod' n chunk, mod-lt n {m = chunk} (omega arith))))
+
+-- ---- the same of the answer to `breaking`
+-- two numbers lent to a study that is not closed, and none
+worked-broken : (brokenLine 22 (ofNat 0) (tableFiller ∷ tableFiller ∷ []) ≡ 50 ∷ 50 ∷ 44 ∷ 48 ∷ 44 ∷ 55 ∷ 44 ∷ 55 ∷ 10 ∷ []) × (brokenLine 22 (ofNat 0) [] ≡ 50 ∷ 50 ∷ 44 ∷ 48 ∷ 10 ∷ [])
+unfolding brokenHead brokenLine numbersText decimal nextText lt ofInt toUnsigned
+worked-broken = (refl, refl)
+
+-- the numbers as they are written, a few after the other
+unfoldable pub fewsText : ℕ → List Float → List ℕ
+fewsText zero numbers = []
+fewsText (suc k) numbers = fewsText k numbers ++ numbersText (fewOf k numbers)
+
+pub broken-head-fits : (number : ℕ) (figure : Float) → length (brokenHead number figure) ≤ room
+unfolding brokenHead
+broken-head-fits number figure = simp length-append (omega (arith, decimal-length number, next-length (wholeOf figure)))
+
+numbers-length : (numbers : List Float) → length (numbersText numbers) ≤ 21 * length numbers
+unfolding numbersText
+numbers-length [] = omega arith
+numbers-length (x ∷ numbers) = simp length-append (omega (arith, next-length (wholeOf x), numbers-length numbers))
+
+pub few-fit : (k : ℕ) (numbers : List Float) → length (numbersText (fewOf k numbers)) ≤ room
+unfolding fewOf
+few-fit k numbers = omega (arith, numbers-length (fewOf k numbers), length-take few (drop (k * few) numbers))
+
+pub numbers-both : (a b : List Float) → numbersText (a ++ b) ≡ numbersText a ++ numbersText b
+unfolding numbersText
+numbers-both [] b = refl
+numbers-both (x ∷ a) b = rw (numbers-both a b, append-assoc)
+
+first-fews : (k : ℕ) (numbers : List Float) → fewsText k numbers ≡ numbersText (take (k * few) numbers)
+unfolding fewsText fewOf numbersText
+first-fews zero numbers = refl
+first-fews (suc k) numbers =
+    let more : suc k * few ≡ k * few + few = omega arith in
+    rw (more, take-add (k * few) few numbers, numbers-both, first-fews k numbers)
+
+pub fews-joined : (number : ℕ) (figure : Float) (lent : List Float)
+    → brokenHead number figure ++ fewsText (fewCount (length lent)) lent ++ (lf ∷ []) ≡ brokenLine number figure lent
+unfolding brokenLine
+fews-joined number figure lent =
+    let n = length lent in
+    rw (first-fews (fewCount n) lent, take-all (fewCount n * few) lent (omega (arith, div-add-mod' n few, mod-lt n {m = few} (omega arith))))

@@ -6,6 +6,7 @@ use mathlib.Core.List.{List}
 use native.Mathlib.Omega.{arith}
 use lib.Dec.{leb}
 use lib.ListN.{length, take, getD, replicate}
+use lib.Ieee.{Float}
 use borrow.Author.Tests.{leb-true, le-leb, lt-leb, lt-ltb, le-ltb}
 use Rattle.network.specs.laws.Tests.{by-test, both-true}
 use Rattle.network.specs.Network.{Network}
@@ -14,13 +15,15 @@ use Rattle.network.specs.declared.query.Found.{Found}
 use Rattle.reader.specs.declared.Numbers.{Numbers}
 use Rattle.reader.specs.File.{Outcome, readOf}
 use Rattle.writer.specs.Writing.{writeNumber, writeLength, afterWrite}
+use Rattle.breaking.specs.Breaking.{breakingNumber, figureAfter, tableAfter}
+use Rattle.breaking.specs.Doubles.{partAt, tableOf, figureAt}
 use Rattle.console.specs.declared.hex.Decoded.{Decoded}
 use Rattle.console.specs.declared.hex.Decoded.the-variants.{Bytes, Broken}
 use Rattle.console.specs.declared.turns.Reason.{Reason}
 use Rattle.console.specs.declared.turns.Reason.the-variants.{Hex, Room, Unknown, Long}
-use Rattle.console.specs.Answers.{readingLine, writtenLine, filler}
+use Rattle.console.specs.Answers.{readingLine, writtenLine, brokenLine, filler, tableFiller}
 use Rattle.console.specs.Lines.{beginsWith, isWord, hexPairs, hexBytes, decodedOf}
-use Rattle.console.specs.Effects.{Effect, wrong, counted, reasonOf, numbered, startEffect, busEffect, sourceEffect, closeEffect, queryEffect, readBy, readEffect, writeInto, writeBy, writeEffect, startWord, busWord, sourceWord, closeWord, queryWord, readWord, writeWord, behind, callEffect, lineEffect}
+use Rattle.console.specs.Effects.{Effect, wrong, counted, reasonOf, numbered, startEffect, busEffect, sourceEffect, closeEffect, queryEffect, readBy, readEffect, writeInto, writeBy, writeEffect, breakInto, breakingBy, breakingEffect, startWord, busWord, sourceWord, closeWord, queryWord, readWord, writeWord, breakingWord, behind, callEffect, lineEffect}
 
 -- ---- so many numbers, or not; v are those that the code has
 module _ (wanted : ℕ → Bool) (call : List ℕ → Effect) (n : Network) (v w : Numbers) (e : v ≡ w) (t : Bool) (h : t ≡ counted v wanted) where
@@ -76,6 +79,20 @@ module _ (n : Network) where
   pub room-refused : (v : List ℕ) → 70000 < getD v 0 0 → wrong Room n ≡ writeBy n v
   room-refused v h = rw (lt-leb (getD v 0 0) 70000 h)
 
+-- ---- a breaking current: its parts, and the room that is lent
+module _ (n : Network) where
+  pub breaking-parts : (bus delay room number : ℕ) (figure : Float) (lent : List Float) → number ≡ breakingNumber n bus delay room → figure ≡ figureAfter number (figureAt n bus delay)
+      → lent ≡ tableAfter number (tableOf (partAt n bus delay) (n .sources)) (replicate room tableFiller)
+      → record { answer = brokenLine number figure lent; network = n } ≡ breakInto n bus delay room
+  unfolding breakInto
+  breaking-parts bus delay room number figure lent p q r = rw (r, q, p)
+
+  pub table-lent : (v : List ℕ) → getD v 2 0 ≤ 1100 → breakInto n (getD v 0 0) (getD v 1 0) (getD v 2 0) ≡ breakingBy n v
+  table-lent v h = rw (le-leb (getD v 2 0) 1100 h)
+
+  pub table-refused : (v : List ℕ) → 1100 < getD v 2 0 → wrong Room n ≡ breakingBy n v
+  table-refused v h = rw (lt-leb (getD v 2 0) 1100 h)
+
 -- ---- the word that a line begins with: none of those before it, and this one
 module _ (n : Network) (line : List ℕ) where
   pub call-start : beginsWith startWord line ≡ true → startEffect n (behind startWord line) ≡ callEffect n line
@@ -112,9 +129,14 @@ module _ (n : Network) (line : List ℕ) where
               unfolding callEffect
               call-write e = rw (a, b, d, f, g, h, e)
 
-              pub call-unknown : beginsWith writeWord line ≡ false → wrong Unknown n ≡ callEffect n line
-              unfolding callEffect
-              call-unknown e = rw (a, b, d, f, g, h, e)
+              module _ (i : beginsWith writeWord line ≡ false) where
+                pub call-breaking : beginsWith breakingWord line ≡ true → breakingEffect n (behind breakingWord line) ≡ callEffect n line
+                unfolding callEffect
+                call-breaking e = rw (a, b, d, f, g, h, i, e)
+
+                pub call-unknown : beginsWith breakingWord line ≡ false → wrong Unknown n ≡ callEffect n line
+                unfolding callEffect
+                call-unknown e = rw (a, b, d, f, g, h, i, e)
 
   -- ---- the length of a line
   pub line-long : 140000 < length line → wrong Long n ≡ lineEffect n line

@@ -36,7 +36,7 @@ int-to-float-t12 c =
     let a = c .before .before in
     le→leb (a .amperes-up .result) (2 ^ 53) (omega (arith, a .amperes-up .ensures, a .before .before .before .share-steps .ensures .1))
 
-mu-of-requires : tie.Need-factor-of-requires
+mu-of-requires : tie.Need-mu-of-requires
 mu-of-requires c κs = search needs
 
 add-weigh : tie.Need-add-weigh

@@ -8,8 +8,8 @@ use borrow.Author.Needs.{needs}
 use Rattle.breaking.proofs.parts.rated_steps.Statement.{statement}
 use Rattle.breaking.proofs.parts.rated_steps.Tie as tie
 
-mul-hundreds : tie.Need-mul-hundreds
-mul-hundreds c = search needs
+mul-hundred-kva : tie.Need-mul-hundred-kva
+mul-hundred-kva c = search needs
 
 int-to-float-t : tie.Need-int-to-float-t
 int-to-float-t c = search needs
@@ -35,7 +35,7 @@ pub rated-steps-spec : {M : Type 1} → statement M
 rated-steps-spec =
     tie.close
     (tie.spec
-    mul-hundreds
+    mul-hundred-kva
     int-to-float-t
     int-to-float-t-2
     int-to-float-root-fine

@@ -3,8 +3,8 @@ use mathlib.Core.Path.{_≡_, _∙_, sym, ap}
 use mathlib.Core.Bool.{false}
 use Rattle.network.specs.Network.{network}
 use Rattle.console.specs.Lines.{beginsWith, isWord}
-use Rattle.console.specs.Effects.{startEffect, busEffect, sourceEffect, queryEffect, readEffect, writeEffect, startWord, busWord, sourceWord, closeWord, queryWord, readWord, writeWord}
-use Rattle.console.specs.laws.EffectsLaw.{call-start, call-bus, call-source, call-close, call-query, call-read, call-write, call-unknown}
+use Rattle.console.specs.Effects.{startEffect, busEffect, sourceEffect, queryEffect, readEffect, writeEffect, breakingEffect, startWord, busWord, sourceWord, closeWord, queryWord, readWord, writeWord, breakingWord}
+use Rattle.console.specs.laws.EffectsLaw.{call-start, call-bus, call-source, call-close, call-query, call-read, call-write, call-breaking, call-unknown}
 use borrow.Author.Needs.{needs}
 use Rattle.console.proofs.calls.make_call.Statement.{statement}
 use Rattle.console.proofs.calls.make_call.Tie as tie
@@ -52,6 +52,12 @@ entry7 c = entry6 (c .before .before .before)
 not-write : (c : tie.Else7) → beginsWith writeWord (entry7 c .args .line .now) ≡ false
 not-write c = sym (c .before .begins6 .ensures) ∙ c .if7 .left
 
+abbrev entry8 : tie.Else8 → tie.Start
+entry8 c = entry7 (c .before .before .before)
+
+not-breaking : (c : tie.Else8) → beginsWith breakingWord (entry8 c .args .line .now) ≡ false
+not-breaking c = sym (c .before .begins7 .ensures) ∙ c .if8 .left
+
 slice-aggregate-begins : tie.Need-slice-aggregate-begins
 slice-aggregate-begins c = search needs
 
@@ -69,7 +75,7 @@ returns c =
     let then = c .before .before in
     let a = then .before .before .before .before .args in
     let n = network (a .s) in
-    λ h. c .make-start .ensures _ ∙ ap (startEffect n) (c .before .after .ensures) ∙ call-start n (a .line .now) (sym (then .before .begins .ensures) ∙ then .if1 .taken)
+    λ h k. c .make-start .ensures _ ∙ ap (startEffect n) (c .before .after .ensures) ∙ call-start n (a .line .now) (sym (then .before .begins .ensures) ∙ then .if1 .taken)
 
 slice-aggregate-begins-2 : tie.Need-slice-aggregate-begins-2
 slice-aggregate-begins-2 c = search needs
@@ -89,7 +95,7 @@ returns-2 c =
     let past = then .before .before .before in
     let a = entry1 past .args in
     let n = network (a .s) in
-    λ h. c .make-bus .ensures _ ∙ ap (busEffect n) (c .before .after2 .ensures) ∙ call-bus n (a .line .now) (not-start (past)) (sym (then .before .begins2 .ensures) ∙ then .if2 .taken)
+    λ h k. c .make-bus .ensures _ ∙ ap (busEffect n) (c .before .after2 .ensures) ∙ call-bus n (a .line .now) (not-start (past)) (sym (then .before .begins2 .ensures) ∙ then .if2 .taken)
 
 slice-aggregate-begins-3 : tie.Need-slice-aggregate-begins-3
 slice-aggregate-begins-3 c = search needs
@@ -109,7 +115,7 @@ returns-3 c =
     let past = then .before .before .before in
     let a = entry2 past .args in
     let n = network (a .s) in
-    λ h. c .make-source .ensures _ ∙ ap (sourceEffect n) (c .before .after3 .ensures) ∙ call-source n (a .line .now) (not-start (past .before .before .before)) (not-bus (past)) (sym (then .before .begins3 .ensures) ∙ then .if3 .taken)
+    λ h k. c .make-source .ensures _ ∙ ap (sourceEffect n) (c .before .after3 .ensures) ∙ call-source n (a .line .now) (not-start (past .before .before .before)) (not-bus (past)) (sym (then .before .begins3 .ensures) ∙ then .if3 .taken)
 
 slice-aggregate-is : tie.Need-slice-aggregate-is
 slice-aggregate-is c = search needs
@@ -126,7 +132,7 @@ returns-4 c =
     let past = then .before .before .before in
     let a = entry3 past .args in
     let n = network (a .s) in
-    λ h. c .make-close .ensures _ ∙ call-close n (a .line .now) (not-start (past .before .before .before .before .before .before)) (not-bus (past .before .before .before)) (not-source (past)) (sym (then .before .is .ensures) ∙ then .if4 .taken)
+    λ h k. c .make-close .ensures _ ∙ call-close n (a .line .now) (not-start (past .before .before .before .before .before .before)) (not-bus (past .before .before .before)) (not-source (past)) (sym (then .before .is .ensures) ∙ then .if4 .taken)
 
 slice-aggregate-begins-4 : tie.Need-slice-aggregate-begins-4
 slice-aggregate-begins-4 c = search needs
@@ -146,7 +152,7 @@ returns-5 c =
     let past = then .before .before .before in
     let a = entry4 past .args in
     let n = network (a .s) in
-    λ h. c .make-query .ensures .1 _ ∙ ap (queryEffect n) (c .before .after4 .ensures) ∙ call-query n (a .line .now) (not-start (past .before .before .before .before .before .before .before .before .before)) (not-bus (past .before .before .before .before .before .before)) (not-source (past .before .before .before)) (not-close (past)) (sym (then .before .begins4 .ensures) ∙ then .if5 .taken)
+    λ h k. c .make-query .ensures .1 _ ∙ ap (queryEffect n) (c .before .after4 .ensures) ∙ call-query n (a .line .now) (not-start (past .before .before .before .before .before .before .before .before .before)) (not-bus (past .before .before .before .before .before .before)) (not-source (past .before .before .before)) (not-close (past)) (sym (then .before .begins4 .ensures) ∙ then .if5 .taken)
 
 slice-aggregate-begins-5 : tie.Need-slice-aggregate-begins-5
 slice-aggregate-begins-5 c = search needs
@@ -166,7 +172,7 @@ returns-6 c =
     let past = then .before .before .before in
     let a = entry5 past .args in
     let n = network (a .s) in
-    λ h. c .make-read .ensures h ∙ ap (readEffect n) (c .before .before .after5 .ensures) ∙ call-read n (a .line .now) (not-start (past .before .before .before .before .before .before .before .before .before .before .before .before)) (not-bus (past .before .before .before .before .before .before .before .before .before)) (not-source (past .before .before .before .before .before .before)) (not-close (past .before .before .before)) (not-query (past)) (sym (then .before .begins5 .ensures) ∙ then .if6 .taken)
+    λ h k. c .make-read .ensures _ h ∙ ap (readEffect n) (c .before .before .after5 .ensures) ∙ call-read n (a .line .now) (not-start (past .before .before .before .before .before .before .before .before .before .before .before .before)) (not-bus (past .before .before .before .before .before .before .before .before .before)) (not-source (past .before .before .before .before .before .before)) (not-close (past .before .before .before)) (not-query (past)) (sym (then .before .begins5 .ensures) ∙ then .if6 .taken)
 
 slice-aggregate-begins-6 : tie.Need-slice-aggregate-begins-6
 slice-aggregate-begins-6 c = search needs
@@ -186,16 +192,36 @@ returns-7 c =
     let past = then .before .before .before in
     let a = entry6 past .args in
     let n = network (a .s) in
-    λ h. c .make-write .ensures .1 h ∙ ap (writeEffect n) (c .before .before .after6 .ensures) ∙ call-write n (a .line .now) (not-start (past .before .before .before .before .before .before .before .before .before .before .before .before .before .before .before)) (not-bus (past .before .before .before .before .before .before .before .before .before .before .before .before)) (not-source (past .before .before .before .before .before .before .before .before .before)) (not-close (past .before .before .before .before .before .before)) (not-query (past .before .before .before)) (not-read (past)) (sym (then .before .begins6 .ensures) ∙ then .if7 .taken)
+    λ h k. c .make-write .ensures .1 _ h ∙ ap (writeEffect n) (c .before .before .after6 .ensures) ∙ call-write n (a .line .now) (not-start (past .before .before .before .before .before .before .before .before .before .before .before .before .before .before .before)) (not-bus (past .before .before .before .before .before .before .before .before .before .before .before .before)) (not-source (past .before .before .before .before .before .before .before .before .before)) (not-close (past .before .before .before .before .before .before)) (not-query (past .before .before .before)) (not-read (past)) (sym (then .before .begins6 .ensures) ∙ then .if7 .taken)
+
+slice-aggregate-begins-7 : tie.Need-slice-aggregate-begins-7
+slice-aggregate-begins-7 c = search needs
+
+begins-requires-7 : tie.Need-begins-requires-7
+begins-requires-7 c κs = search needs
+
+after-requires-7 : tie.Need-after-requires-7
+after-requires-7 c κs = search needs
+
+make-breaking-requires : tie.Need-make-breaking-requires
+make-breaking-requires c κs = search needs
+
+returns-8 : tie.Need-returns-8
+returns-8 c =
+    let then = c .before .before .before in
+    let past = then .before .before .before in
+    let a = entry7 past .args in
+    let n = network (a .s) in
+    λ h k. c .make-breaking .ensures .1 _ k ∙ ap (breakingEffect n) (c .before .before .after7 .ensures) ∙ call-breaking n (a .line .now) (not-start (past .before .before .before .before .before .before .before .before .before .before .before .before .before .before .before .before .before .before)) (not-bus (past .before .before .before .before .before .before .before .before .before .before .before .before .before .before .before)) (not-source (past .before .before .before .before .before .before .before .before .before .before .before .before)) (not-close (past .before .before .before .before .before .before .before .before .before)) (not-query (past .before .before .before .before .before .before)) (not-read (past .before .before .before)) (not-write (past)) (sym (then .before .begins7 .ensures) ∙ then .if8 .taken)
 
 failed-requires : tie.Need-failed-requires
 failed-requires c κs = search needs
 
-returns-8 : tie.Need-returns-8
-returns-8 c =
+returns-9 : tie.Need-returns-9
+returns-9 c =
     let past = c .before in
-    let a = entry7 past .args in
-    λ h. c .failed .ensures .1 _ ∙ call-unknown (network (a .s)) (a .line .now) (not-start (past .before .before .before .before .before .before .before .before .before .before .before .before .before .before .before .before .before .before)) (not-bus (past .before .before .before .before .before .before .before .before .before .before .before .before .before .before .before)) (not-source (past .before .before .before .before .before .before .before .before .before .before .before .before)) (not-close (past .before .before .before .before .before .before .before .before .before)) (not-query (past .before .before .before .before .before .before)) (not-read (past .before .before .before)) (not-write (past))
+    let a = entry8 past .args in
+    λ h k. c .failed .ensures .1 _ ∙ call-unknown (network (a .s)) (a .line .now) (not-start (past .before .before .before .before .before .before .before .before .before .before .before .before .before .before .before .before .before .before .before .before .before)) (not-bus (past .before .before .before .before .before .before .before .before .before .before .before .before .before .before .before .before .before .before)) (not-source (past .before .before .before .before .before .before .before .before .before .before .before .before .before .before .before)) (not-close (past .before .before .before .before .before .before .before .before .before .before .before .before)) (not-query (past .before .before .before .before .before .before .before .before .before)) (not-read (past .before .before .before .before .before .before)) (not-write (past .before .before .before)) (not-breaking (past))
 
 pub make-call-spec : {M : Type 1} → statement M
 make-call-spec =
@@ -235,5 +261,10 @@ make-call-spec =
     after-requires-6
     make-write-requires
     returns-7
+    slice-aggregate-begins-7
+    begins-requires-7
+    after-requires-7
+    make-breaking-requires
+    returns-8
     failed-requires
-    returns-8)
+    returns-9)

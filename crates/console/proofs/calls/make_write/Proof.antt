@@ -54,7 +54,7 @@ returns c =
     let lent = mid-len 0 room (a .text .now) (c .before .before .before .before .if2 .taken) ∙ all in
     let first = take-at _ _ room (done .kept .1 .0 ∙ lent) in
     let parts = write-parts n room _ _ _ (done .ensures .0 ∙ ap (writeNumber n) lent) (done .ensures .1 .0 ∙ ap (writeLength n) lent) (first ∙ done .ensures .1 .1 ∙ ap (λ (k : ℕ). afterWrite n (replicate k filler)) lent) in
-    (refl, λ h. parts ∙ room-lent n v (omega arith) ∙ numbers-taken (exactly 1) (writeBy n) n _ _ (before .numbers-of .ensures) _ (then .before .takes .ensures) (then .if1 .taken))
+    (refl, λ table h. parts ∙ room-lent n v (omega arith) ∙ numbers-taken (exactly 1) (writeBy n) n _ _ (before .numbers-of .ensures) _ (then .before .takes .ensures) (then .if1 .taken))
 
 failed-requires : tie.Need-failed-requires
 failed-requires c κs = search needs
@@ -64,7 +64,7 @@ returns-2 c =
     let then = c .before .before in
     let before = then .before .before .before in
     let n = network (before .before .before .before .args .s) in
-    (c .failed .ensures .0, λ h. c .failed .ensures .1 _ ∙ room-refused n (before .numbers-of .result .values) (omega arith) ∙ numbers-taken (exactly 1) (writeBy n) n _ _ (before .numbers-of .ensures) _ (then .before .takes .ensures) (then .if1 .taken))
+    (c .failed .ensures .0, λ table h. c .failed .ensures .1 _ ∙ room-refused n (before .numbers-of .result .values) (omega arith) ∙ numbers-taken (exactly 1) (writeBy n) n _ _ (before .numbers-of .ensures) _ (then .before .takes .ensures) (then .if1 .taken))
 
 reason-of-requires : tie.Need-reason-of-requires
 reason-of-requires c κs = search needs
@@ -76,7 +76,7 @@ returns-3 : tie.Need-returns-3
 returns-3 c =
     let before = c .before .before .before .before .before in
     let n = network (before .before .before .before .args .s) in
-    (c .failed2 .ensures .0, λ h. c .failed2 .ensures .1 _ ∙ numbers-wrong (exactly 1) (writeBy n) n _ _ (before .numbers-of .ensures) _ (c .before .before .before .takes .ensures) (c .before .before .if1 .left) _ (c .before .reason-of .ensures))
+    (c .failed2 .ensures .0, λ table h. c .failed2 .ensures .1 _ ∙ numbers-wrong (exactly 1) (writeBy n) n _ _ (before .numbers-of .ensures) _ (c .before .before .before .takes .ensures) (c .before .before .if1 .left) _ (c .before .reason-of .ensures))
 
 pub make-write-spec : {M : Type 1} → statement M
 make-write-spec =
