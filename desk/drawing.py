@@ -2,10 +2,11 @@
 import os
 
 from desk import diagram, oneline
+from desk.figures import figures_of
 from desk.records import rows_of
 from desk.rewriting import with_accepted, written
 from desk.studies import rounded
-from desk.table import bus_line
+from desk.table import verdict_words
 
 
 def title_of(source):
@@ -16,8 +17,7 @@ def title_of(source):
 def drawn(study, buses, title):
     """The SVG of an accepted study; the words of a verdict are those of the table."""
     rows = [row.decode("ascii").split(",") for row in rows_of(study.rows)]
-    records = [row for row in rows if row[0] == "B"]
-    words = {bus[0]: bus_line(bus, record)[-1] for bus, record in zip(buses, records)}
+    words = {bus.number: verdict_words(bus) for bus in figures_of(study.rows, buses)}
     return diagram.svg(oneline.buses_of(rows, buses, dict(enumerate(study.names)), words), title)
 
 

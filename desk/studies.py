@@ -5,6 +5,7 @@ from typing import NamedTuple
 
 from desk import files
 from desk.breaking import breakings
+from desk.figures import figures_of
 from desk.plan import Mistakes, rows_of_plan
 from desk.program import Refusal, answer
 from desk.refusals import explained
@@ -92,15 +93,16 @@ def judged(study, delay=""):
         return Answer(1, refused(study, got))
     # names before the columns are measured
     names, sources = ([fitted(name, sys.stdout) for name in words] for words in (study.names, study.sources))
-    said = with_breaking(study.rows, got, delay, names, sources) if delay else [table(study.rows, got, names)]
+    buses = figures_of(study.rows, got, names)
+    said = with_breaking(study.rows, buses, delay, names, sources) if delay else [table(buses)]
     return Answer(0, "\n\n".join(filter(None, [*said, rounded(study)])))
 
 
-def with_breaking(rows, got, delay, names, sources):
+def with_breaking(rows, buses, delay, names, sources):
     """The table with a column of breaking currents, and who contributes how much to them."""
     found = breakings(rows, delay)
     column = [heading(delay)] + [f"{one.figure:,}" for one in found]
-    return [table(rows, got, names, column), shares(rows, found, delay, names, sources)]
+    return [table(buses, column), shares(rows, found, delay, names, sources)]
 
 
 def shown(path, exact=False, delay=""):

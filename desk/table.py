@@ -1,5 +1,4 @@
 """The table for people: what the program printed for each bus, its ratings and the verdict in words."""
-from desk.records import rows_of
 from desk.trouble import Trouble
 
 HEADINGS = ("bus", "volts", "machines", "converters", "peak", "rating", "peak rating", "verdict")
@@ -7,27 +6,28 @@ LEFT = ("name", "generator", "verdict")
 NOTE = "All currents in amperes; initial currents as rms values, from a lower to an upper bound; peaks as momentary values."
 
 
-def verdict(low, high, peak, rating, peak_rating):
+def verdict(bus):
     """The letter and the words: document 01, "Verdict", on whole amperes."""
-    if peak > peak_rating:
-        return "O", f"over the peak rating by {peak - peak_rating:,} A"
-    if low > rating:
-        return "O", f"over the rating by {low - rating:,} A"
-    if high <= rating:
-        return "W", f"within, {rating - high:,} A to spare"
+    if bus.peak > bus.peak_rating:
+        return "O", f"over the peak rating by {bus.peak - bus.peak_rating:,} A"
+    if bus.low > bus.rating:
+        return "O", f"over the rating by {bus.low - bus.rating:,} A"
+    if bus.high <= bus.rating:
+        return "W", f"within, {bus.rating - bus.high:,} A to spare"
     return "C", "close: the rating lies between the bounds"
 
 
-def bus_line(bus, record):
-    number, lower, upper, converters_lower, converters_upper, peak, converters_peak, said = bus
-    volts, rating, peak_rating = int(record[2]), int(record[9]), int(record[10])
-    total_peak = peak + converters_peak
-    letter, words = verdict(lower + converters_lower, upper + converters_upper, total_peak, rating, peak_rating)
-    # The words are this command's own; the letter is proved. Where the two differ, neither is shown.
-    if letter != said:
-        raise Trouble(f"bus {number}: the program says {said} where its figures say: {words}")
-    return (str(number), f"{volts:,}", f"{lower:,} to {upper:,}", f"{converters_lower:,} to {converters_upper:,}",
-            f"{total_peak:,}", f"{rating:,}", f"{peak_rating:,}", words)
+def verdict_words(bus):
+    """The words are this command's own; the letter is proved. Where the two differ, neither is shown."""
+    letter, words = verdict(bus)
+    if letter != bus.letter:
+        raise Trouble(f"bus {bus.number}: the program says {bus.letter} where its figures say: {words}")
+    return words
+
+
+def bus_line(bus):
+    return (str(bus.number), f"{bus.volts:,}", f"{bus.lower:,} to {bus.upper:,}", f"{bus.converters_lower:,} to {bus.converters_upper:,}",
+            f"{bus.peak:,}", f"{bus.rating:,}", f"{bus.peak_rating:,}", verdict_words(bus))
 
 
 def with_column(lines, place, column):
@@ -43,15 +43,12 @@ def columns(lines):
                      for line in lines)
 
 
-def table(text, buses, names=(), breaking=()):
-    """The table of an accepted study, from its text and what the program printed for its buses; with their names, and with a
-    column of breaking currents below its heading, where there are any."""
-    records = [row.decode("ascii").split(",") for row in rows_of(text) if row.startswith(b"B,")]
-    if len(records) != len(buses):
-        raise Trouble(f"the program gave {len(buses)} rows for {len(records)} buses")
-    lines = [HEADINGS] + [bus_line(bus, record) for bus, record in zip(buses, records)]
+def table(buses, breaking=()):
+    """The table of an accepted study, from the Figures of its buses; with their names, and with a column of breaking currents below
+    its heading, where there are any."""
+    lines = [HEADINGS] + [bus_line(bus) for bus in buses]
     if breaking:
         lines = with_column(lines, HEADINGS.index("peak"), breaking)
-    if names:
-        lines = with_column(lines, 1, ["name", *names])
+    if any(bus.name for bus in buses):
+        lines = with_column(lines, 1, ["name"] + [bus.name for bus in buses])
     return columns(lines) + "\n\n" + NOTE
