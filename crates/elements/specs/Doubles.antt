@@ -1,6 +1,6 @@
 -- The elements as they are calculated in f64, a definition for each function of src/: impedances, the step of the peak table, current,
 -- peaks and μ. How near each is to the exact one is proved in laws/ImpedanceErrors, laws/Place, laws/BoundsAndPeaks and laws/BreakingFactor.
-use Prim.Native.Nat.{ℕ, _+_, _*_, _-_, _/_, _%_, min}
+use Prim.Native.Nat.{ℕ, _+_, _*_, _-_, _/_, _%_, min, max}
 use mathlib.Core.Bool.{cond, _&&_, Bool, false}
 use lib.Dec.{leb, ltb, eqb}
 use lib.Ieee.{Float, binary64, ofBits, add, mul, le}
@@ -20,9 +20,9 @@ transformerBy tolerance Ulower UrOwn kVA uk uR =
     (scaled (9500 * factorC tolerance Ulower) (1000000 + 6 * uxOf uk uR) (scaled UrOwn 100000000 (scaled UrOwn kVA (wholePoint uR (uxOf uk uR)))))
     none
 
--- R/Z and X/Z, in 10⁸
+-- R/Z and X/Z, in 10⁸; nothing where ρ is past document 01's range
 unfoldable pub splitBy : ℕ → Complex
-splitBy ρ = wholePoint (splitOf ρ * ρ) (splitOf ρ * 100)
+splitBy ρ = cond (leb ρ 200) (wholePoint (splitOf ρ * ρ) (splitOf ρ * 100)) none
 
 unfoldable pub feederBy : ℕ → ℕ → ℕ → ℕ → Complex
 feederBy tolerance Un kVA ρ = scaled (factorC tolerance Un) 100000000 (scaled Un 100000 (scaled Un kVA (splitBy ρ)))
@@ -30,11 +30,11 @@ feederBy tolerance Un kVA ρ = scaled (factorC tolerance Un) 100000000 (scaled U
 unfoldable pub motorBy : ℕ → ℕ → ℕ → ℕ → Complex
 motorBy Ur kVA ratio ρ = scaled 1 100000 (scaled 1 100000 (scaled Ur ratio (scaled Ur kVA (splitBy ρ))))
 
--- nothing where xd or ρ is past document 01's range
+-- nothing where xd or ρ is past document 01's range; a power factor below it counts as its least, 70
 unfoldable pub generatorBy : ℕ → ℕ → ℕ → ℕ → ℕ → ℕ → ℕ → Complex
 generatorBy tolerance Un Ur kVA xd ρ powerFactor =
     cond (leb xd 100000 && leb ρ 200)
-    (scaled (factorC tolerance Un) (1000000000 + xd * sineOf powerFactor) (scaled Un 1000 (scaled Ur kVA (wholePoint (xd * ρ) (xd * 100)))))
+    (scaled (factorC tolerance Un) (1000000000 + xd * sineOf (max powerFactor 70)) (scaled Un 1000 (scaled Ur kVA (wholePoint (xd * ρ) (xd * 100)))))
     none
 
 unfoldable pub converterBy : ℕ → ℕ → Complex

@@ -1,6 +1,8 @@
 pub mod Factors
 pub mod Exponential
 pub mod EachBelow
+pub mod SineTable
+pub mod SplitTable
 pub mod PeakTable
 pub mod BreakingFactor
 pub mod FineTable

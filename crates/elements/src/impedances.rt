@@ -35,6 +35,9 @@ pub fn transformer(tolerance: u32, lower: u32, own: u32, kva: u32, uk: u32, ur: 
 fn split(rho: u32) -> Complex
     ensures { λ z. ⌜ z ≡ splitBy rho ⌝ }
 {
+    if 200 < rho {
+        return nothing();
+    }
     let f = split_factor(rho);
     of(f * rho, f * 100)
 }

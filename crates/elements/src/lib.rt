@@ -3,3 +3,4 @@ pub mod factors;
 pub mod impedances;
 pub mod mu;
 pub mod peaks;
+mod tables;

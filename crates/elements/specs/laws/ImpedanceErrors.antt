@@ -4,7 +4,7 @@ use Prim.Native.Nat.{ℕ, _+_, _*_, _^_, _≤_, _<_}
 use mathlib.Core.Path.{_≡_, refl}
 use mathlib.Core.List.{[], _∷_}
 use native.Mathlib.Omega.{arith}
-use native.Mathlib.Nat.{mul-le-mul, mul-pos}
+use native.Mathlib.Nat.{mul-le-mul, mul-pos, max-eq-left}
 use borrow.Author.Tests.{le-leb}
 use Rattle.algebra.specs.Reading.{identity, read}
 use Rattle.enclosure.specs.Exact.{Point, times, inverse}
@@ -86,13 +86,13 @@ transformer-near tolerance lower own kVA uk uR hk hr ho hv =
         (by 8 own 100000000 _ _ (omega arith) ho (omega arith, omega arith) (by 0 own kVA _ _ (omega arith) ho hv (start uR x hr l))))
 
 -- a machine whose impedance is split by f: the pair f·ρ and f·100 first
-split-start : (ρ : ℕ) → Calculated 0 (record { re = splitOf ρ * ρ; im = splitOf ρ * 100; den = 1 }) (splitBy ρ)
+split-start : (ρ : ℕ) → ρ ≤ 200 → Calculated 0 (record { re = splitOf ρ * ρ; im = splitOf ρ * 100; den = 1 }) (splitBy ρ)
 unfolding splitBy
-split-start ρ = start (splitOf ρ * ρ) (splitOf ρ * 100) (omega (arith, split-re-most ρ)) (omega (arith, split-im-most ρ))
+split-start ρ h = rw (le-leb ρ 200 h) (start (splitOf ρ * ρ) (splitOf ρ * 100) (omega (arith, split-re-most ρ)) (omega (arith, split-im-most ρ)))
 
-pub feeder-near : (tolerance Un kVA ρ : ℕ) → Factor Un → Factor kVA → Calculated 24 (feeder tolerance Un kVA ρ) (feederBy tolerance Un kVA ρ)
+pub feeder-near : (tolerance Un kVA ρ : ℕ) → ρ ≤ 200 → Factor Un → Factor kVA → Calculated 24 (feeder tolerance Un kVA ρ) (feederBy tolerance Un kVA ρ)
 unfolding feeder feederBy split
-feeder-near tolerance Un kVA ρ hu hv = go (factorC tolerance Un) (splitOf ρ * ρ) (splitOf ρ * 100) (factorC-sized tolerance Un) (split-start ρ)
+feeder-near tolerance Un kVA ρ hρ hu hv = go (factorC tolerance Un) (splitOf ρ * ρ) (splitOf ρ * 100) (factorC-sized tolerance Un) (split-start ρ hρ)
   where
     same : (a c : ℕ) → a * Un * Un * c * (100000000 * (100 * (1000 * kVA))) ≡ a * (c * (Un * Un)) * (1 * kVA * 100000 * 100000000)
     same a c = identity (a ∷ Un ∷ c ∷ kVA ∷ []) (search read depth 40 fits 20000) refl
@@ -106,24 +106,24 @@ feeder-near tolerance Un kVA ρ hu hv = go (factorC tolerance Un) (splitOf ρ * 
         (by 16 c 100000000 _ _ (omega arith) (omega arith, omega arith) (omega arith, omega arith)
         (by 8 Un 100000 _ _ (omega arith) hu (omega arith, omega arith) (by 0 Un kVA _ _ (omega arith) hu hv s)))
 
-pub motor-near : (Ur kVA ratio ρ : ℕ) → Factor Ur → Factor kVA → Factor ratio → Calculated 32 (motor Ur kVA ratio ρ) (motorBy Ur kVA ratio ρ)
+pub motor-near : (Ur kVA ratio ρ : ℕ) → ρ ≤ 200 → Factor Ur → Factor kVA → Factor ratio → Calculated 32 (motor Ur kVA ratio ρ) (motorBy Ur kVA ratio ρ)
 unfolding motor motorBy split
-motor-near Ur kVA ratio ρ hu hv hr =
+motor-near Ur kVA ratio ρ hρ hu hv hr =
     equal 32 (times 1 100000 (times 1 100000 (times Ur ratio (times Ur kVA (record { re = splitOf ρ * ρ; im = splitOf ρ * 100; den = 1 }))))) _ _
     (mul-pos (omega arith) (mul-pos (hr .0) (mul-pos (omega arith) (hv .0))))
     (record { re = same (splitOf ρ * ρ); im = same (splitOf ρ * 100) })
     (by 24 1 100000 _ _ (omega arith) (omega arith, omega arith) (omega arith, omega arith)
     (by 16 1 100000 _ _ (omega arith) (omega arith, omega arith) (omega arith, omega arith)
-    (by 8 Ur ratio _ _ (omega arith) hu hr (by 0 Ur kVA _ _ (omega arith) hu hv (split-start ρ)))))
+    (by 8 Ur ratio _ _ (omega arith) hu hr (by 0 Ur kVA _ _ (omega arith) hu hv (split-start ρ hρ)))))
   where
     same : (a : ℕ) → a * Ur * Ur * 1 * 1 * (100000000 * (ratio * (1000 * kVA))) ≡ a * (10 * (Ur * Ur)) * (1 * kVA * ratio * 100000 * 100000)
     same a = identity (a ∷ Ur ∷ kVA ∷ ratio ∷ []) (search read depth 40 fits 20000) refl
 
-pub generator-near : (tolerance Un Ur kVA xd ρ powerFactor : ℕ) → xd ≤ 100000 → ρ ≤ 200 → Factor Un → Factor Ur → Factor kVA
+pub generator-near : (tolerance Un Ur kVA xd ρ powerFactor : ℕ) → xd ≤ 100000 → ρ ≤ 200 → 70 ≤ powerFactor → Factor Un → Factor Ur → Factor kVA
     → Calculated 24 (generator tolerance Un Ur kVA xd ρ powerFactor) (generatorBy tolerance Un Ur kVA xd ρ powerFactor)
 unfolding generator generatorBy
-generator-near tolerance Un Ur kVA xd ρ powerFactor hx hρ hn hr hv =
-    rw (le-leb xd 100000 hx, le-leb ρ 200 hρ)
+generator-near tolerance Un Ur kVA xd ρ powerFactor hx hρ hp hn hr hv =
+    rw (le-leb xd 100000 hx, le-leb ρ 200 hρ, max-eq-left hp)
     (go (factorC tolerance Un) (xd * sineOf powerFactor) (factorC-sized tolerance Un) (saturation-most xd powerFactor hx))
   where
     same : (a c s : ℕ) → a * Ur * Un * c * (10000000 * (1000 * kVA) * (Ur * (1000000000 + s))) ≡ a * (Ur * Ur) * (Un * (10000000 * c)) * (1 * kVA * 1000 * (1000000000 + s))

@@ -1,33 +1,28 @@
--- `elements::factors::split_factor` meets its contract. The square of a number of 32 bits, and 10,000 more, fits 64.
+-- `elements::factors::split_factor` meets its contract: the table's rule, at ρ or at 200.
 -- Assumes nothing.
+use mathlib.Core.Path.{ap, sym, _∙_}
+use native.Mathlib.Nat.{min-eq-left, min-eq-right}
 use native.Mathlib.Omega.{arith}
-use native.Mathlib.Nat.{lt-of-le-of-lt, div-le-self}
-use lib.Dec.{lit<}
 use borrow.Author.Needs.{needs}
 use Rattle.elements.specs.Factors.{splitOf}
-use Rattle.elements.specs.laws.Factors.{product-most, root-fits}
+use Rattle.elements.specs.laws.SplitTable.{splits-rule}
 use Rattle.elements.proofs.factors.split_factor.Statement.{statement}
 use Rattle.elements.proofs.factors.split_factor.Tie as tie
 
-mul-root : tie.Need-mul-root
-mul-root c = record { fits = omega (arith, product-most (c .fits .rho .fits) (c .fits .rho .fits)) }
+mul-result : tie.Need-mul-result
+mul-result c = search needs
 
-add-root : tie.Need-add-root
-add-root c = record { fits = omega (arith, product-most (c .fits .rho .fits) (c .fits .rho .fits)) }
+array-read-result : tie.Need-array-read-result
+array-read-result c = search needs
 
-div-root : tie.Need-div-root
-div-root c = search needs
-
-root-requires : tie.Need-root-requires
-root-requires c κs = search needs
-
-cast-result : tie.Need-cast-result
-cast-result c = record { fits = root-fits (c .root .ensures) (lt-of-le-of-lt (div-le-self _ _) (lit< tt)) }
+array-read-result-2 : tie.Need-array-read-result-2
+array-read-result-2 c = search needs
 
 returns : tie.Need-returns
-unfolding splitOf
-returns c = c .root .ensures
+returns c = splits-rule (c .before .args .rho) (omega arith) ∙ ap splitOf (sym (min-eq-left (omega arith)))
+
+returns-2 : tie.Need-returns-2
+returns-2 c = splits-rule 200 (omega arith) ∙ ap splitOf (sym (min-eq-right (omega arith)))
 
 pub split-factor-spec : {M : Type 1} → statement M
-split-factor-spec =
-    tie.close (tie.spec mul-root add-root div-root root-requires cast-result returns)
+split-factor-spec = tie.close (tie.spec mul-result array-read-result array-read-result-2 returns returns-2)

@@ -1,5 +1,6 @@
 -- `elements::impedances::generator` computes its definition. Assumes nothing.
 use native.Mathlib.Nat.{mul-le-mul}
+use Prim.Native.Nat.{max}
 use native.Mathlib.Omega.{arith}
 use borrow.Author.Needs.{needs}
 use borrow.Author.Tests.{le-leb, lt-leb}
@@ -44,10 +45,10 @@ sine-requires : tie.Need-sine-requires
 sine-requires c κs = search needs
 
 mul-scale : tie.Need-mul-scale
-mul-scale c = record { fits = rw (c .sine .ensures) (omega (arith, saturation-most (c .before .before .before .before .before .before .before .args .xd) (c .before .before .before .before .before .before .before .args .power-factor) (c .before .before .before .before .before .before .if1 .left))) }
+mul-scale c = record { fits = rw (c .sine .ensures) (omega (arith, saturation-most (c .before .before .before .before .before .before .before .args .xd) (max (c .before .before .before .before .before .before .before .args .power-factor) 70) (c .before .before .before .before .before .before .if1 .left))) }
 
 add-scale : tie.Need-add-scale
-add-scale c = record { fits = rw (c .sine .ensures) (omega (arith, saturation-most (c .before .before .before .before .before .before .before .args .xd) (c .before .before .before .before .before .before .before .args .power-factor) (c .before .before .before .before .before .before .if1 .left))) }
+add-scale c = record { fits = rw (c .sine .ensures) (omega (arith, saturation-most (c .before .before .before .before .before .before .before .args .xd) (max (c .before .before .before .before .before .before .before .args .power-factor) 70) (c .before .before .before .before .before .before .if1 .left))) }
 
 scale-requires-3 : tie.Need-scale-requires-3
 scale-requires-3 c κs = search needs
