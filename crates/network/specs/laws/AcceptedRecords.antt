@@ -84,13 +84,15 @@ pub record GeneratorRanges (p : Source) : Type 0 where
   pub xd : 1000 ≤ p .f3
   pub xd-most : p .f3 ≤ 100000
   pub ratio : p .f4 ≤ 200
+  pub power-factor : 70 ≤ p .f5
 
 generator-fields : (p : Source) → all (generatorTests p) ≡ true → GeneratorRanges p
 generator-fields p e =
     let h = all-true (generatorTests p) e in
     let s = in-range (p .f2) 10 1000000 (h .0) in
     let x = in-range (p .f3) 1000 100000 (h .1 .0) in
-    record { kVA = s .0; kVA-most = s .1; xd = x .0; xd-most = x .1; ratio = omega (arith, leb-true) }
+    let c = in-range (p .f5) 70 100 (h .1 .1 .1 .0) in
+    record { kVA = s .0; kVA-most = s .1; xd = x .0; xd-most = x .1; ratio = omega (arith, leb-true); power-factor = c .0 }
 
 pub record MotorRanges (p : Source) : Type 0 where
   pub kVA : 1 ≤ p .f2

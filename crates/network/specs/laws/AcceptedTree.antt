@@ -225,18 +225,18 @@ module _ {n : Network} (r : Rebuilt n) where
         cases (λ x y. Accurate 45 (inverse x) y)
         (λ k.
         let f = feeder-ranges r j l k in
-        let h = admittance-near 24 _ _ (lit≤ tt) (feeder-near (n .tolerance) U (p .f1) (p .f2) hU (le-trans (lit≤ tt) (f .kVA), omega (arith, f .kVA-most))) in
+        let h = admittance-near 24 _ _ (lit≤ tt) (feeder-near (n .tolerance) U (p .f1) (p .f2) (f .ratio) hU (le-trans (lit≤ tt) (f .kVA), omega (arith, f .kVA-most))) in
         rw k (accurate-more 37 45 _ _ (lit≤ tt) (h .0, h .1 .fine)))
         (λ k.
         let f = generator-ranges r j l k in
         let t = rated k in
-        let h = admittance-near 24 _ _ (lit≤ tt) (generator-near (n .tolerance) U (p .f1) (p .f2) (p .f3) (p .f4) (p .f5) (f .xd-most) (f .ratio) hU
+        let h = admittance-near 24 _ _ (lit≤ tt) (generator-near (n .tolerance) U (p .f1) (p .f2) (p .f3) (p .f4) (p .f5) (f .xd-most) (f .ratio) (f .power-factor) hU
         (le-trans (lit≤ tt) (rated-least _ _ (u .0) (t .least)), omega (arith, rated-most (p .f1) U (u .1) (t .most))) (le-trans (lit≤ tt) (f .kVA), omega (arith, f .kVA-most))) in
         rw k (accurate-more 37 45 _ _ (lit≤ tt) (h .0, h .1 .fine)))
         (λ k.
         let f = motor-ranges r j l k in
         let t = rated-three k in
-        let h = admittance-near 32 _ _ (lit≤ tt) (motor-near (p .f1) (p .f2) (p .f3) (p .f4)
+        let h = admittance-near 32 _ _ (lit≤ tt) (motor-near (p .f1) (p .f2) (p .f3) (p .f4) (f .ratio)
         (le-trans (lit≤ tt) (rated-least _ _ (u .0) (t .least)), omega (arith, rated-most (p .f1) U (u .1) (t .most))) (f .kVA, omega (arith, f .kVA-most)) (le-trans (lit≤ tt) (f .start), omega (arith, f .start-most))) in
         rw k (h .0, h .1 .fine))
 
