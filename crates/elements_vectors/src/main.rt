@@ -90,10 +90,16 @@ fn reactance_grid() {
 fn main() {
     voltage_rows(6);
     voltage_rows(10);
+    row(b's', 0);
+    row(b's', 69);
     rows(b's', 70, 101);
+    row(b's', 101);
+    row(b's', 4_294_967_295);
     reactance_row(6_000, 1_000);
     reactance_grid();
     rows(b'f', 0, 201);
+    row(b'f', 201);
+    row(b'f', 4_294_967_295);
     rows(b'K', 0, 231);
     row(b'K', 231);
     row(b'K', 4_294_967_295);

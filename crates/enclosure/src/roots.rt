@@ -1,7 +1,7 @@
 // Whole square roots.
 ghost use mathlib.Core.Path.{_≡_};
 ghost use mathlib.Core.Bool.{true};
-ghost use Rattle.enclosure.specs.Exact.{rootOf, rootUp};
+ghost use Rattle.enclosure.specs.Exact.{rootOf};
 ghost use Rattle.enclosure.specs.Doubles.{rootBelow, rootFine, underRoot};
 
 // A number near the root of m: from m with its exponent halved, by three steps of Newton's. Nothing rests on how near it is: what is
@@ -61,16 +61,6 @@ fn root_by_digits(x: u64) -> u64
     }
     let r = 2 * root_by_digits(x / 4);
     if (r + 1) * (r + 1) <= x { r + 1 } else { r }
-}
-
-// The least whole number whose square is at least x.
-pub fn root_up(x: u64) -> u64
-    ensures { λ r. ⌜ r ≡ rootUp x ⌝ }
-{
-    if x == 0 {
-        return 0;
-    }
-    root(x - 1) + 1
 }
 
 // Whether n is below 2^53, its square, rounded, is at most m, and that of n + 1 is not.

@@ -134,10 +134,6 @@ fn root(x: u64) {
     number(x);
     number(roots::root(x));
     end();
-    text(b"root_up");
-    number(x);
-    number(roots::root_up(x));
-    end();
 }
 
 fn whole_roots() {

@@ -4,7 +4,7 @@ use mathlib.Core.Path.{_≡_}
 use native.Mathlib.Omega.{arith}
 use native.Mathlib.Nat.{le-trans, mul-le-mul, mul-le-mul-right, div-mul-le-self, le-div-iff-mul-le}
 use borrow.Author.Tests.{le-leb, lt-leb}
-use Rattle.enclosure.specs.Exact.{rootOf, rootUp}
+use Rattle.enclosure.specs.Exact.{rootOf}
 use Rattle.enclosure.specs.laws.Root.{root-is, root-le, root-below, root-greatest, rootUp-reaches, rootUp-least}
 use Rattle.elements.specs.Factors.{factorC, sineOf, uxOf, splitOf}
 
@@ -68,6 +68,3 @@ product-most {a} {b} h k =
 
 pub root-fits : {x r : ℕ} → r ≡ rootOf x → x < 18446744073709551616 → r < 4294967296
 root-fits {x} {r} e h = rw e (root-below x 4294967296 h)
-
-pub rootUp-fits : {x r : ℕ} → r ≡ rootUp x → x ≤ 4294967295 * 4294967295 → r < 4294967296
-rootUp-fits {x} {r} e h = omega (arith, rootUp-least x 4294967295 h)

@@ -1,9 +1,8 @@
 -- Whole square roots: `rootOf` gives the greatest n with n² ≤ x and `rootUp` the least n with x ≤ n². Assumes nothing.
-use Prim.Native.Nat.{ℕ, zero, suc, _+_, _-_, _*_, _/_, _^_, _≤_, _<_, zero-le}
-use mathlib.Core.Path.{_≡_, refl}
+use Prim.Native.Nat.{ℕ, zero, suc, _+_, _*_, _/_, _^_, _≤_, _<_, zero-le}
+use mathlib.Core.Path.{_≡_}
 use mathlib.Core.Bool.{Bool, true, false, not}
 use native.Mathlib.Omega.{arith}
-use native.Mathlib.Numerals.{add-one}
 use native.Mathlib.Nat.{mul-le-mul, lt-of-le-of-lt, lt-of-not-le, le-antisymm, le-refl, le-trans, not-suc-le-self}
 use lib.Dec.{T, lit<, leb, leb→le, nleb→lt, eqb, eqb→eq}
 use Rattle.enclosure.specs.Exact.{widen, rootBy, rootOf, rootUp}
@@ -81,11 +80,6 @@ quarter-below x s e h = rw e (root-below (x / 4) (2 ^ 31) (omega arith))
 
 pub square-fits : (s : ℕ) → s < 2 ^ 31 → (2 * s + 1) * (2 * s + 1) < 2 ^ 64
 square-fits s h = lt-of-le-of-lt (mul-le-mul {n₁ = 2 * s + 1} {m₁ = 2 * s + 1} {n₂ = 4294967295} {m₂ = 4294967295} (omega arith) (omega arith)) (lit< tt)
-
-pub root-up-more : (x : ℕ) → (x ≡ 0 → ⊥) → rootOf (x - 1) + 1 ≡ rootUp x
-unfolding rootUp
-root-up-more zero h = absurd (h refl)
-root-up-more (suc x) h = let e : suc x - 1 ≡ x = omega arith in rw (e, add-one)
 
 -- ---- a guess that is tried: below 2 ^ 32 - 1 the next number's square fits
 pub guess-fits : (n : ℕ) → n < 4294967295 → (n + 1) * (n + 1) < 2 ^ 64
