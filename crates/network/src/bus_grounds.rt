@@ -116,19 +116,19 @@ fn way_of(buses: [Bus; BUSES], i: usize) -> Way
     ensures branches { λ r. ⌜ r .branches ≡ depthOf buses i ⌝ }
     ensures transformers { λ r. ⌜ r .transformers ≡ transformersOf buses i ⌝ }
 {
-    let mut branches = 0usize;
-    let mut transformers = 0usize;
-    let mut at = i;
-    let mut b = buses[at];
-    while (b.parent as usize) < at {
-        branches += 1;
-        transformers += if_transformer(b);
-        at = b.parent as usize;
-        b = buses[at];
-    }
-    Way {
-        branches: branches,
-        transformers: transformers,
+    let b = buses[i];
+    let parent = b.parent as usize;
+    if parent < i {
+        let above = way_of(buses, parent);
+        Way {
+            branches: above.branches + 1,
+            transformers: above.transformers + if_transformer(b),
+        }
+    } else {
+        Way {
+            branches: 0,
+            transformers: 0,
+        }
     }
 }
 

@@ -1,5 +1,5 @@
 -- Laws of the way from a bus to bus 0. `way-more` and `way-none` are the equations that determine it, without a number of steps.
-use mathlib.Core.Path.{_≡_, refl, ap, sym}
+use mathlib.Core.Path.{_≡_, ap}
 use mathlib.Core.Bool.{Bool, true, false, cond}
 use mathlib.Core.List.{List}
 use Prim.Native.Nat.{ℕ, zero, suc, _+_, _≤_, _<_}
@@ -55,37 +55,3 @@ if-transformer-small b = one-at-most (eqb (b .kind) 2)
 
 pub transformers-small : (l : List Bus) (i : ℕ) → transformersOf l i ≤ i
 transformers-small = way-small ifTransformer if-transformer-small
-
--- ---- the way counted branch by branch: what was counted on the way from bus i to bus k, whose record is b
-pub record CountedTo (l : List Bus) (i k : ℕ) (b : Bus) (branches transformers : ℕ) : Type 0 where
-  pub below : k ≤ i
-  pub here : b ≡ busAt l k
-  pub depth : branches + depthOf l k ≡ depthOf l i
-  pub crossed : transformers + transformersOf l k ≡ transformersOf l i
-
-module _ {l : List Bus} {i : ℕ} where
-  pub counted-begin : CountedTo l i i (busAt l i) 0 0
-  counted-begin = record { below = omega arith; here = refl; depth = omega arith; crossed = omega arith }
-
-  pub counted-more : {k : ℕ} {b : Bus} {m t : ℕ} → CountedTo l i k b m t → b .parent < k → CountedTo l i (b .parent) (busAt l (b .parent)) (m + 1) (t + ifTransformer b)
-  counted-more {k} {b} {m} {t} h f =
-      let e : busAt l k .parent ≡ b .parent = ap (λ (c : Bus). c .parent) (sym (h .here)) in
-      let d = way-more anyBranch l k (rw e f) in
-      let x = way-more ifTransformer l k (rw e f) in
-      record {
-        below = omega (arith, h .below);
-        here = refl;
-        depth = rw (sym e) (omega (arith, h .depth));
-        crossed = rw (h .here) (omega (arith, h .crossed));
-      }
-
-  pub counted-end : {k : ℕ} {b : Bus} {m t : ℕ} → CountedTo l i k b m t → k ≤ b .parent → (m ≡ depthOf l i) × (t ≡ transformersOf l i)
-  counted-end {k} {b} {m} {t} h f =
-      let e : busAt l k .parent ≡ b .parent = ap (λ (c : Bus). c .parent) (sym (h .here)) in
-      let d = way-none anyBranch l k (rw e f) in
-      let x = way-none ifTransformer l k (rw e f) in
-      (omega (arith, h .depth), omega (arith, h .crossed))
-
-  -- so that both counts stay small
-  pub counted-small : {k : ℕ} {b : Bus} {m t : ℕ} → CountedTo l i k b m t → (m ≤ i) × (t ≤ i)
-  counted-small h = (omega (arith, h .depth, depth-small l i), omega (arith, h .crossed, transformers-small l i))
