@@ -1,15 +1,21 @@
 // The grounds in the input on which a bus record is refused: a test for each, and the first that fails.
 ghost use mathlib.Core.Path.{_≡_};
-ghost use Prim.Native.Nat.{_<_};
+ghost use mathlib.Core.Bool.{cond};
+ghost use Prim.Native.Nat.{_≤_, _<_};
+ghost use lib.Dec.{eqb};
 ghost use Rattle.network.specs.Records.{all, voltsOk, ratingOk, noBranchTests, lineTests, transformerTests, branchOk};
 ghost use Rattle.tree.specs.Limits.{maxBuses};
-ghost use Rattle.network.specs.Network.{busAt, ifTransformer, depthOf, transformersOf};
+ghost use Rattle.sweep.specs.Points.{numberAt};
+ghost use Rattle.sweep.specs.laws.Columns.{FilledTo};
+ghost use Rattle.network.specs.Network.{busAt};
+ghost use Rattle.network.specs.laws.Ways.{countedBy};
 ghost use Rattle.network.specs.Grounds.{parentOk, kindOk, lineVoltsOk, transformerVoltsOk, depthOk, busRecordNumber};
 use crate::checks::rated_ok;
 use crate::checks::unless;
 use crate::study::BUSES;
 use crate::study::Bus;
 use crate::study::blank_bus;
+use sweep::columns::number_at;
 
 // The branches that may lead from bus 0 to a bus.
 const BRANCHES: usize = 18;
@@ -103,26 +109,48 @@ struct Way {
     transformers: usize,
 }
 
-// 1 for a bus whose branch is a transformer, else 0.
-fn if_transformer(b: Bus) -> usize
-    ensures { λ r. ⌜ r ≡ ifTransformer b ⌝ }
+// Of each bus its parent and the kind of its branch: the way to bus 0 is found by these, so that no step of it copies the records.
+struct WayColumns {
+    parents: [u32; BUSES],
+    kinds: [u32; BUSES],
+}
+
+// The columns of the first n records.
+fn way_columns(buses: [Bus; BUSES], n: usize) -> WayColumns
+    requires { ⌜ n ≤ maxBuses ⌝ }
+    ensures parents { λ r. ⌜ FilledTo 0 (λ k. busAt buses k .parent) n (r .parents) ⌝ }
+    ensures kinds { λ r. ⌜ FilledTo 0 (λ k. busAt buses k .kind) n (r .kinds) ⌝ }
 {
-    if b.kind == 2 { 1 } else { 0 }
+    let mut parents = [0; BUSES];
+    let mut kinds = [0; BUSES];
+    let mut k = 0;
+    while k < n {
+        let b = buses[k];
+        parents[k] = b.parent;
+        kinds[k] = b.kind;
+        k += 1;
+    }
+    WayColumns { parents, kinds }
+}
+
+// 1 where the branch is a transformer, else 0.
+fn if_transformer(kind: u32) -> usize
+    ensures { λ r. ⌜ r ≡ cond (eqb kind 2) 1 0 ⌝ }
+{
+    if kind == 2 { 1 } else { 0 }
 }
 
 // The way from bus i to bus 0, followed while numbers fall.
-fn way_of(buses: [Bus; BUSES], i: usize) -> Way
-    requires { ⌜ i < maxBuses ⌝ }
-    ensures branches { λ r. ⌜ r .branches ≡ depthOf buses i ⌝ }
-    ensures transformers { λ r. ⌜ r .transformers ≡ transformersOf buses i ⌝ }
+fn way_of<'a>(parents: &'a [u32; BUSES], kinds: &'a [u32; BUSES], i: usize) -> Way
+    ensures branches { λ r. ⌜ r .branches ≡ countedBy (numberAt (now (parents .entry))) (λ k. 1) i ⌝ }
+    ensures transformers { λ r. ⌜ r .transformers ≡ countedBy (numberAt (now (parents .entry))) (λ k. cond (eqb (numberAt (now (kinds .entry)) k) 2) 1 0) i ⌝ }
 {
-    let b = buses[i];
-    let parent = b.parent as usize;
+    let parent = number_at(parents, i) as usize;
     if parent < i {
-        let above = way_of(buses, parent);
+        let above = way_of(parents, kinds, parent);
         Way {
             branches: above.branches + 1,
-            transformers: above.transformers + if_transformer(b),
+            transformers: above.transformers + if_transformer(number_at(kinds, i)),
         }
     } else {
         Way {
@@ -137,7 +165,8 @@ fn depth_ok(buses: [Bus; BUSES], i: usize) -> bool
     requires { ⌜ i < maxBuses ⌝ }
     ensures { λ r. ⌜ r ≡ depthOk buses i ⌝ }
 {
-    let w = way_of(buses, i);
+    let c = way_columns(buses, i + 1);
+    let w = way_of(&c.parents, &c.kinds, i);
     (w.branches <= BRANCHES) & (w.transformers <= TRANSFORMERS)
 }
 
