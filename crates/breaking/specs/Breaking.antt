@@ -37,8 +37,8 @@ unfoldable pub tableAfter : ℕ → List Float → List Float → List Float
 tableAfter number numbers table = cond (eqb number 0) (laidOver numbers table) table
 
 -- the square of the share that the source at place j has of the fault current at b; a converter is no machine and has none
-abbrev pub shareAt : Network → ℕ → ℕ → Fraction
-shareAt n b j =
+abbrev pub shareSquareAt : Network → ℕ → ℕ → Fraction
+shareSquareAt n b j =
     let p = sourceAt (n .sources) j in
     cond (isMachine p) (shareSquare (gridOf n) (driving n b) (admittanceOf n p) b (p .bus)) (whole 0)
 

@@ -12,7 +12,7 @@ use Rattle.network.specs.SourceKinds.{isMachine, isGenerator}
 use Rattle.network.specs.Network.{Network, sourceAt}
 use Rattle.network.specs.Grounds.{Call, run}
 use Rattle.network.specs.Demand.{Narrow}
-use Rattle.breaking.specs.Breaking.{breakingNumber, shareAt, qSquareAt, weightAt, convertersPart}
+use Rattle.breaking.specs.Breaking.{breakingNumber, shareSquareAt, qSquareAt, weightAt, convertersPart}
 
 -- "whole bounds on its share", by squares, "at most 2 A plus a thousandth of the upper apart"
 pub record ShareHolds (s : Fraction) (lower upper : ℕ) : Type 0 where
@@ -29,19 +29,19 @@ pub record BreakingHolds (n : Network) (b delay : ℕ) (lent table : List Float)
   pub numbers : (j : ℕ) → j < length (n .sources) → (getD table (2 * j) nan ≡ ofNat (lower j)) × (getD table (2 * j + 1) nan ≡ ofNat (upper j)) × (lower j < 2 ^ 53) × (upper j < 2 ^ 53)
   pub figure-whole : (figure ≡ ofNat amperes) × (amperes < 2 ^ 53)
   -- "For each generator give whole bounds on its share .., and 0, 0 for other kinds"
-  pub shares : (j : ℕ) → j < length (n .sources) → isGenerator (sourceAt (n .sources) j) ≡ true → ShareHolds (shareAt n b j) (lower j) (upper j)
+  pub shares : (j : ℕ) → j < length (n .sources) → isGenerator (sourceAt (n .sources) j) ≡ true → ShareHolds (shareSquareAt n b j) (lower j) (upper j)
   pub others : (j : ℕ) → j < length (n .sources) → isGenerator (sourceAt (n .sources) j) ≡ false → (lower j ≡ 0) × (upper j ≡ 0)
   -- "numbers beyond the last source's are kept"
   pub beyond : (length table ≡ length lent) × (drop (2 * length (n .sources)) table ≡ drop (2 * length (n .sources)) lent)
   -- shares, q and the converters' part are fractions, and every machine has a share: no comparison holds because there is nothing to compare
-  pub proper : (j : ℕ) → j < length (n .sources) → 0 < shareAt n b j .under
-  pub some : (j : ℕ) → j < length (n .sources) → isMachine (sourceAt (n .sources) j) ≡ true → 0 < shareAt n b j .top
+  pub proper : (j : ℕ) → j < length (n .sources) → 0 < shareSquareAt n b j .under
+  pub some : (j : ℕ) → j < length (n .sources) → isMachine (sourceAt (n .sources) j) ≡ true → 0 < shareSquareAt n b j .top
   pub proper-q : (j : ℕ) → j < length (n .sources) → isGenerator (sourceAt (n .sources) j) ≡ true → 0 < qSquareAt n b j .under
   pub proper-converters : 0 < convertersPart n b .under
   -- "The breaking figure is never below that sum with exact shares and the stated table, nor above it by more than 3 % plus 4 A": it is at
   -- most 1.03 times the sum and 4 where the sum is at least (figure − 4)/1.03
-  pub enough : SumAtMost (length (n .sources)) (weightAt n b delay) (shareAt n b) (convertersPart n b) (whole amperes)
-  pub near : SumAtLeast (length (n .sources)) (weightAt n b delay) (shareAt n b) (convertersPart n b) (record { top = 100 * (amperes - 4); under = 103 })
+  pub enough : SumAtMost (length (n .sources)) (weightAt n b delay) (shareSquareAt n b) (convertersPart n b) (whole amperes)
+  pub near : SumAtLeast (length (n .sources)) (weightAt n b delay) (shareSquareAt n b) (convertersPart n b) (record { top = 100 * (amperes - 4); under = 103 })
 
 -- whatever calls made the network, where the call is not refused
 abbrev pub BreakingPromise : Network → ℕ → ℕ → List Float → List Float → Float → Type 0

@@ -23,7 +23,7 @@ use parts::amperes_up;
 use table::lay_shares;
 
 // What the call gives: the number of its ground, and the breaking figure.
-pub struct Broken {
+pub struct BreakingAnswer {
     pub number: u32,
     pub figure: Rms,
 }
@@ -53,7 +53,7 @@ fn number_after(found: u32, delay: u32, sources: usize, room: usize) -> u32
 // The breaking figure of a bus, and in the table two numbers a source in source order: whole bounds of a generator's share, 0 and 0 of any
 // other source. Numbers beyond these are kept. Refused: 22 not closed, 15 no such bus, 31 no such delay, 30 the table is too short; then
 // the figure is 0 and the table as it was. The clause `promise` is order 3 whole, for whatever calls made the study.
-pub fn breaking(s: Study, bus: u32, delay: u32, table: &mut [f64]) -> Broken
+pub fn breaking(s: Study, bus: u32, delay: u32, table: &mut [f64]) -> BreakingAnswer
     ensures number { λ r. ⌜ r .number ≡ breakingNumber (network s) bus delay (length (now (table .entry))) ⌝ }
     ensures figure { λ r. ⌜ r .figure .0 ≡ figureAfter (r .number) (figureAt (network s) bus delay) ⌝ }
     ensures table { λ r. ⌜ now (table .exit) ≡ tableAfter (r .number) (tableOf (partAt (network s) bus delay) (network s .sources)) (now (table .entry)) ⌝ }
@@ -62,7 +62,7 @@ pub fn breaking(s: Study, bus: u32, delay: u32, table: &mut [f64]) -> Broken
     let found = query(s, bus);
     let number = number_after(found.number, delay, source_total(s), table.len());
     if number != 0 {
-        return Broken {
+        return BreakingAnswer {
             number,
             figure: rms_of(0),
         };
@@ -70,5 +70,5 @@ pub fn breaking(s: Study, bus: u32, delay: u32, table: &mut [f64]) -> Broken
     let steps = lay_shares(s, bus as usize, delay, table);
     let machines = rms_of(amperes_up(steps));
     let figure = add_rms(machines, found.amperes.converters_upper);
-    Broken { number, figure }
+    BreakingAnswer { number, figure }
 }

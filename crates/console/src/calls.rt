@@ -25,7 +25,7 @@ use crate::turns::failed;
 use crate::words::after;
 use crate::words::begins;
 use crate::words::is;
-use breaking::Broken;
+use breaking::BreakingAnswer;
 use network::study::Study;
 use reader::MOST_FIELDS;
 use reader::Numbers;
@@ -164,7 +164,7 @@ fn make_write(s: Study, rest: &[u8], text: &mut [u8]) -> Turn
     failed(s, reason_of(n))
 }
 
-fn break_into(s: Study, bus: u32, delay: u32, table: &mut [f64]) -> Broken
+fn break_into(s: Study, bus: u32, delay: u32, table: &mut [f64]) -> BreakingAnswer
     ensures number { λ r. ⌜ r .number ≡ breakingNumber (network s) bus delay (length (now (table .entry))) ⌝ }
     ensures figure { λ r. ⌜ r .figure .0 ≡ figureAfter (r .number) (figureAt (network s) bus delay) ⌝ }
     ensures table { λ r. ⌜ now (table .exit) ≡ tableAfter (r .number) (tableOf (partAt (network s) bus delay) (network s .sources)) (replicate (length (now (table .entry))) tableFiller) ⌝ }

@@ -31,7 +31,7 @@ abbrev pub figureOf : ℕ → ℕ → ℕ
 figureOf S U = amperesUp S + U
 
 -- ---- what is known of one magnitude with the square s and the weight w: it is from l to e steps, and the weight that is used is w′
-pub record Part (w w′ e l : ℕ) (s : Fraction) : Type 0 where
+pub record PartHolds (w w′ e l : ℕ) (s : Fraction) : Type 0 where
   pub proper : 0 < s .under
   pub above : Most s (product (fine e) (fine e))
   pub below : Most (product (fine l) (fine l)) s
@@ -41,7 +41,7 @@ pub record Part (w w′ e l : ℕ) (s : Fraction) : Type 0 where
   pub weight-most : w′ ≤ 1000
 
 -- from one root
-pub part-of-root : (w w′ : ℕ) (S : Fraction) (r : ℕ) → 0 < S .under → RootHolds (16777216 * S .top) (S .under) r → w ≤ w′ → 1000 * w′ ≤ 1017 * w → w′ ≤ 1000 → Part w w′ (r + 1) (underRoot r) S
+pub part-of-root : (w w′ : ℕ) (S : Fraction) (r : ℕ) → 0 < S .under → RootHolds (16777216 * S .top) (S .under) r → w ≤ w′ → 1000 * w′ ≤ 1017 * w → w′ ≤ 1000 → PartHolds w w′ (r + 1) (underRoot r) S
 part-of-root w w′ S r p h a b c =
     record { proper = p; above = bounds-above S r h; below = bounds-under S r h; close = bounds-close r; weight = a; weight-close = b; weight-most = c }
 
@@ -92,7 +92,7 @@ sum-high (suc m) w w′ e h = go _ _ _ _ (sum-high m w w′ e (λ j l. h j (omeg
     go : (a b c d : ℕ) → a ≤ 1000 * b → c ≤ 1000 * d → a + c ≤ 1000 * (b + d)
     go a b c d h k = omega arith
 
-sum-low : (m : ℕ) (w w′ e l : ℕ → ℕ) (s : ℕ → Fraction) → ((j : ℕ) → j < m → Part (w j) (w′ j) (e j) (l j) (s j))
+sum-low : (m : ℕ) (w w′ e l : ℕ → ℕ) (s : ℕ → Fraction) → ((j : ℕ) → j < m → PartHolds (w j) (w′ j) (e j) (l j) (s j))
     → 16383000000 * sumOf m (λ j. weighed (w′ j) (e j)) ≤ 16662528 * sumOf m (λ j. w j * l j) + 65518617000 * m
 sum-low zero w w′ e l s h = le-refl 0
 sum-low (suc m) w w′ e l s h =
@@ -112,7 +112,7 @@ figure-low : (m p S L U : ℕ) → m ≤ coveredSources → 16383000000 * S ≤ 
 figure-low m p S L U few h k = omega arith
 
 -- ---- THE FIGURE IS NEVER BELOW THE SUM, nor above it by more than 3 % and 4
-module _ (m : ℕ) (few : m ≤ coveredSources) (w w′ e l : ℕ → ℕ) (s : ℕ → Fraction) (parts : (j : ℕ) → j < m → Part (w j) (w′ j) (e j) (l j) (s j)) (L U : ℕ) (C : Fraction) (rest : Rest L U C) where
+module _ (m : ℕ) (few : m ≤ coveredSources) (w w′ e l : ℕ → ℕ) (s : ℕ → Fraction) (parts : (j : ℕ) → j < m → PartHolds (w j) (w′ j) (e j) (l j) (s j)) (L U : ℕ) (C : Fraction) (rest : Rest L U C) where
   pub figure-at-most : SumAtMost m (λ j. thousandths (w j)) s C (whole (figureOf (sumOf m (λ j. weighed (w′ j) (e j))) U))
   figure-at-most =
       sum-at-most m (λ j. thousandths (w j)) s C _ (λ j k. parts j k .proper) (λ j k. lit< tt) (rest .proper) (λ j. fine (e j)) (λ j k. (lit< tt, parts j k .above))

@@ -23,7 +23,7 @@ use Rattle.network.specs.laws.AcceptedRecords.{few-sources, closed-source}
 use Rattle.network.specs.laws.Claim.{demand}
 use Rattle.network.specs.laws.Promise.{amperes-given}
 use Rattle.network.specs.laws.Shares.{machine-share-some}
-use Rattle.breaking.specs.Breaking.{breakingGrounds, breakingNumber, figureAfter, tableAfter, laidOver, shareAt, convertersPart}
+use Rattle.breaking.specs.Breaking.{breakingGrounds, breakingNumber, figureAfter, tableAfter, laidOver, shareSquareAt, convertersPart}
 use Rattle.breaking.specs.Doubles.{weighed, amperesUp, partAt, tableOf, stepsFrom, figureAt}
 use Rattle.breaking.specs.Promise.{BreakingHolds, BreakingPromise}
 use Rattle.breaking.specs.laws.Laid.{laid-lower, laid-upper, laid-length, laid-beyond, sum-same, steps-sum}
@@ -104,10 +104,10 @@ module _ {n : Network} (r : Rebuilt n) (c : n .closed ≡ true) (b : ℕ) (lb : 
     proper-q = λ j l g. proper-q-at r b lb j l g;
     proper-converters = asked .converters .proper;
     enough =
-        figure-at-most places (few-sources r) (weightOf n b delay) (weightOver n b delay) (stepsOver n b) (stepsUnder n b) (shareAt n b)
+        figure-at-most places (few-sources r) (weightOf n b delay) (weightOver n b delay) (stepsOver n b) (stepsUnder n b) (shareSquareAt n b)
         (λ j l. part-holds r b lb j l delay) restLower restUpper (convertersPart n b) rest-holds;
     near =
-        figure-at-least places (few-sources r) (weightOf n b delay) (weightOver n b delay) (stepsOver n b) (stepsUnder n b) (shareAt n b)
+        figure-at-least places (few-sources r) (weightOf n b delay) (weightOver n b delay) (stepsOver n b) (stepsUnder n b) (shareSquareAt n b)
         (λ j l. part-holds r b lb j l delay) restLower restUpper (convertersPart n b) rest-holds;
   }
 

@@ -29,7 +29,7 @@ use Rattle.network.specs.laws.Tests.{never}
 use Rattle.network.specs.laws.Rebuilt.{Rebuilt}
 use Rattle.network.specs.laws.Shares.{ways-volts, machine-share, machine-share-proper, share-small, generator-rated-share, generator-rated-proper}
 use Rattle.breaking.specs.declared.parts.Part.{Part}
-use Rattle.breaking.specs.Breaking.{shareAt, qSquareAt}
+use Rattle.breaking.specs.Breaking.{shareSquareAt, qSquareAt}
 use Rattle.breaking.specs.Doubles.{weighed, amperesUp, generatorPart, partBy, partOf, partAt}
 use Rattle.breaking.specs.Promise.{ShareHolds}
 use Rattle.breaking.specs.laws.Amperes.{share-holds, amperes-few}
@@ -94,7 +94,7 @@ module _ (delay : ℕ) (k ρ D : Float) (p : Source) where
       go false false = unweighed (shareSteps k ρ D + 1)
 
 -- ---- these hold: S is the square of a machine's share, w the weight of a generator. A converter has no share
-no-part : sums.Part 1000 1000 0 0 (whole 0)
+no-part : sums.PartHolds 1000 1000 0 0 (whole 0)
 no-part = record { proper = lit< tt; above = lit≤ tt; below = lit≤ tt; close = lit≤ tt; weight = lit≤ tt; weight-close = lit≤ tt; weight-most = lit≤ tt }
 
 abbrev Weighs : ℕ → ℕ → Type 0
@@ -104,7 +104,7 @@ abbrev Rooted : Fraction → ℕ → Type 0
 Rooted S r = (0 < S .under) × RootHolds (16777216 * S .top) (S .under) r
 
 holds-by : (w m r : ℕ) (S : Fraction) (g c : Bool) → (g ≡ true → c ≡ false) → (g ≡ true → Weighs w m) → (c ≡ false → Rooted S r)
-    → sums.Part (weightBy g w) (weightBy g m) (highBy g c r) (lowBy g c r) (cond (not c) S (whole 0))
+    → sums.PartHolds (weightBy g w) (weightBy g m) (highBy g c r) (lowBy g c r) (cond (not c) S (whole 0))
 holds-by w m r S true true k u h = never (sym (k refl))
 holds-by w m r S true false k u h = let x = u refl in let y = h refl in sums.part-of-root w m S r (y .0) (y .1) (x .0) (x .1) (x .2)
 holds-by w m r S false true k u h = no-part
@@ -200,10 +200,10 @@ module _ {n : Network} (r : Rebuilt n) (b : ℕ) where
         mu-bounds delay (qSquareAt n b j) (generator-rated-proper r b lb j l g) _ (h .above) (h .under)
 
     -- THE PART HOLDS, AND A GENERATOR'S TWO NUMBERS HOLD
-    pub part-holds : (delay : ℕ) → sums.Part (weightOf n b delay j) (weightOver n b delay j) (stepsOver n b j) (stepsUnder n b j) (shareAt n b j)
+    pub part-holds : (delay : ℕ) → sums.PartHolds (weightOf n b delay j) (weightOver n b delay j) (stepsOver n b j) (stepsUnder n b j) (shareSquareAt n b j)
     part-holds delay = holds-by _ _ (rootAt n b j) square (isGenerator (sourceAt (n .sources) j)) (isConverter (sourceAt (n .sources) j)) single (weighs delay) rooted
 
-    pub numbers-hold : isGenerator (sourceAt (n .sources) j) ≡ true → ShareHolds (shareAt n b j) (lowerAt n b j) (upperAt n b j)
+    pub numbers-hold : isGenerator (sourceAt (n .sources) j) ≡ true → ShareHolds (shareSquareAt n b j) (lowerAt n b j) (upperAt n b j)
     numbers-hold g = share-by (rootAt n b j) square (isGenerator (sourceAt (n .sources) j)) (isConverter (sourceAt (n .sources) j)) single rooted g
 
     pub few-at : (lowerAt n b j < 2 ^ 53) × (upperAt n b j < 2 ^ 53) × (stepsOver n b j ≤ 2 ^ 51)
