@@ -11,6 +11,7 @@ class Answer(NamedTuple):
     status: int
     out: object = ""
     notes: str = ""
+    heed: bool = False  # some bus is over or close, which --strict makes a status of its own
 
 
 def fitted(words, stream):

@@ -8,12 +8,13 @@ from desk.breaking import breakings
 from desk.figures import figures_of
 from desk.plan import Mistakes, rows_of_plan
 from desk.program import Refusal, answer
-from desk.refusals import explained
+from desk.refusals import explanation
 from desk.shares import heading, shares
 from desk.show import visible
 from desk.streams import Answer, fitted
 from desk.table import table
 from desk.texts import MARK, wide
+from desk.verdicts import is_to_heed
 
 IN_ROWS = re.compile(r"[Ss]\s*[,;\t]\s*\d")
 A_PLAN = "It looks like a plan, and was taken for rows: the name of a plan ends in .toml, and --toml and --fix are for rows."
@@ -66,11 +67,14 @@ def from_plan(data, exact):
     return Study(converted.rows, tuple(converted.names), tuple(converted.roundings), tuple(converted.sources))
 
 
+def mistakes_head(found):
+    count = len(found.mistakes)
+    return f"refused: the plan has {count} {'mistake' if count == 1 else 'mistakes'}."
+
+
 def mistaken(found):
     """All mistakes of a plan, as they are listed."""
-    count = len(found.mistakes)
-    head = f"refused: the plan has {count} {'mistake' if count == 1 else 'mistakes'}."
-    return "\n".join([head] + ["  " + visible(one) for one in found.mistakes])
+    return "\n".join([mistakes_head(found)] + ["  " + visible(one) for one in found.mistakes])
 
 
 def rounded(study):
@@ -80,10 +84,15 @@ def rounded(study):
 
 # ---- what is said
 
+def explanation_of(study, got):
+    """The explanation of a refusal. What is wrong with a plan as rows helps nobody, so that only the ground is said."""
+    found = explanation(study.rows, *got, study.names)
+    is_no_rows = got.number == 16 and looks_like_plan(study.rows)
+    return found._replace(picture="", sentences=(A_PLAN,)) if is_no_rows else found
+
+
 def refused(study, got):
-    """The explanation of a refusal. What is wrong with a plan as rows helps nobody, so that only its first line is said."""
-    said = explained(study.rows, *got, study.names)
-    return said.split("\n")[0] + f"\n  {A_PLAN}" if got.number == 16 and looks_like_plan(study.rows) else said
+    return explanation_of(study, got).text()
 
 
 def judged(study, delay=""):
@@ -95,7 +104,7 @@ def judged(study, delay=""):
     names, sources = ([fitted(name, sys.stdout) for name in words] for words in (study.names, study.sources))
     buses = figures_of(study.rows, got, names)
     said = with_breaking(study.rows, buses, delay, names, sources) if delay else [table(buses)]
-    return Answer(0, "\n\n".join(filter(None, [*said, rounded(study)])))
+    return Answer(0, "\n\n".join(filter(None, [*said, rounded(study)])), heed=is_to_heed(buses))
 
 
 def with_breaking(rows, buses, delay, names, sources):

@@ -2,7 +2,7 @@
 from desk.trouble import Trouble
 
 HEADINGS = ("bus", "volts", "machines", "converters", "peak", "rating", "peak rating", "verdict")
-LEFT = ("name", "generator", "verdict")
+LEFT = ("name", "generator", "verdict", "file", "worst bus")
 NOTE = "All currents in amperes; initial currents as rms values, from a lower to an upper bound; peaks as momentary values."
 
 
@@ -43,12 +43,16 @@ def columns(lines):
                      for line in lines)
 
 
-def table(buses, breaking=()):
-    """The table of an accepted study, from the Figures of its buses; with their names, and with a column of breaking currents below
-    its heading, where there are any."""
+def table_lines(buses, breaking=()):
+    """The cells of the table of an accepted study, the headings first, from the Figures of its buses; with their names, and with a
+    column of breaking currents below its heading, where there are any."""
     lines = [HEADINGS] + [bus_line(bus) for bus in buses]
     if breaking:
         lines = with_column(lines, HEADINGS.index("peak"), breaking)
     if any(bus.name for bus in buses):
         lines = with_column(lines, 1, ["name"] + [bus.name for bus in buses])
-    return columns(lines) + "\n\n" + NOTE
+    return lines
+
+
+def table(buses, breaking=()):
+    return columns(table_lines(buses, breaking)) + "\n\n" + NOTE

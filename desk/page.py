@@ -1,0 +1,185 @@
+"""`board --html`: a study as one page that needs nothing beside it, to read on a screen and on paper, and to hand on.
+
+The same file gives the same bytes: no date stands on it. The figures are those of the table; no current is calculated here.
+"""
+import hashlib
+
+from desk import diagram, oneline
+from desk.drawing import drawn_buses, title_of
+from desk.files import name_of
+from desk.inputs import entries_of
+from desk.layout import layout
+from desk.lettering import clean
+from desk.markup import Markup, element, joined, paragraphs, table
+from desk.outcome import Refused
+from desk.records import rows_of
+from desk.refusals import capital
+from desk.revision import edition
+from desk.shares import NO_GENERATOR, WHAT_IT_IS, WHAT_SHARES_ARE, generators_of, heading, share_lines
+from desk.show import visible
+from desk.style import STYLE
+from desk.table import LEFT, NOTE, table_lines, verdict_words
+from desk.verdicts import called, whole, worst_first
+
+KIND = "Short-circuit currents: balanced three-phase fault, maximum case of IEC 60909-0"
+ALONE = "default-src 'none'; style-src 'unsafe-inline'"  # the browser is to fetch nothing and to run nothing
+LISTED = 8  # buses to heed that are named below the verdict of the whole
+WIDE = 118  # characters in a line of a table that an upright sheet still has room for
+BADGE = 18
+MEANINGS = (
+    ("machines, converters", "The parts of the initial symmetrical short-circuit current I\u2033k that come from the feeder, the generators and "
+     "the motors, and from the converters; each from a lower to an upper bound. The converters' part is a plain sum: the rated current "
+     "times k of every converter counts in full at every bus, carried over the transformers by their rated voltages. It is on the safe side."),
+    ("peak", "The peak short-circuit current ip of both parts together."),
+    ("over", "The peak is above its rating, or the sum of the lower bounds is above the rating."),
+    ("within", "The peak is not above its rating, and the sum of the upper bounds is not above the rating; to spare is what is left of it."),
+    ("close", "The peak is not above its rating, and the rating lies between the two sums, so that the figures cannot tell."),
+)
+PROMISE = """\
+It is proved for every accepted study that the exact initial currents lie between their bounds, that these differ by at most 2 A plus a
+thousandth of the upper, and that each peak, of the machines and of the converters, is no lower than the exact one and above it by at most
+0.15 % plus 1 A. Exact means by the formulas of IEC 60909-0 as the users' specification of the program simplifies and rounds them.
+
+That the program writes these figures and no others, and that this page shows them as they were written, is tested and not proved."""
+
+
+# ---- the study as a whole
+
+def badge(letter):
+    """The letter of a verdict in its shape, as in the diagram. What it means stands in words beside it."""
+    return element("svg", Markup(diagram.badge(letter, BADGE / 2, BADGE / 2)), class_="badge", viewBox=f"0 0 {BADGE} {BADGE}",
+                   aria_hidden="true", font_family=diagram.FONTS)
+
+
+def kind_of(letter):
+    return oneline.VERDICT_WORDS[letter]
+
+
+def to_heed(buses):
+    """The buses that are over or close, the worst first."""
+    found = [bus for bus in worst_first(buses) if bus.letter != "W"]
+    told = [element("li", badge(bus.letter), element("bdi", capital(called(bus))), f": {verdict_words(bus)}") for bus in found[:LISTED]]
+    more = len(found) - len(told)
+    return element("ul", *told, *[element("li", f"and {more} more in the table below")] * bool(more)) if found else Markup()
+
+
+def verdict_part(buses):
+    letter = worst_first(buses)[0].letter
+    return joined([element("p", whole(buses), class_=f"whole {kind_of(letter)}"), to_heed(buses)], "\n")
+
+
+# ---- the diagram
+
+def diagram_part(outcome, title):
+    """The drawing of --svg without its title, which stands on the page; as wide as the page has room for."""
+    buses = drawn_buses(outcome.study, outcome.answers, outcome.buses)
+    drawing = layout(buses, "")
+    drawn = Markup(diagram.drawn(drawing, buses, f"{title}: one-line diagram"))
+    box = element("div", drawn, class_="diagram", tabindex=0, role="region", aria_label="One-line diagram",
+                  style=f"--wide: {diagram.number(drawing.width)}px")
+    return element("section", element("h2", "One-line diagram"), "\n", box)
+
+
+# ---- the tables
+
+def is_wide(lines):
+    """Whether a table asks for a sheet that lies across."""
+    return sum(max(map(len, column)) + 2 for column in zip(*lines)) > WIDE
+
+
+def with_marks(lines, buses):
+    """The lines of the table of buses with the mark of each verdict before the number, and names and words as such."""
+    places = [place for place, heading in enumerate(lines[0]) if heading == "name"]
+    marked = []
+    for line, bus in zip(lines[1:], buses):
+        cells = [element("bdi", cell) if place in places else cell for place, cell in enumerate(line)]
+        marked.append([joined([badge(bus.letter), cells[0]]), *cells[1:-1], element("span", cells[-1], class_="words")])
+    return [lines[0], *marked]
+
+
+def section(title, parts, across=False):
+    return element("section", element("h2", title), "\n", joined(parts, "\n"), class_="across" if across else "")
+
+
+def buses_part(outcome):
+    column = [heading(outcome.delay)] + [f"{one.figure:,}" for one in outcome.breakings] if outcome.delay else ()
+    lines = table_lines(outcome.buses, column)
+    made = table("Currents, ratings and verdict of each bus, in amperes", with_marks(lines, outcome.buses), LEFT,
+                 [kind_of(bus.letter) for bus in outcome.buses])
+    notes = [element("p", NOTE, class_="note")]
+    if outcome.delay:
+        notes.append(element("div", paragraphs(WHAT_IT_IS.format(outcome.delay)), class_="note"))
+    return section("Buses", [made, *notes], is_wide(lines))
+
+
+def shares_part(outcome):
+    """Who contributes how much to the breaking currents; nothing where these were not asked for."""
+    if not outcome.delay:
+        return Markup()
+    study = outcome.study
+    generators = generators_of(study.rows, study.names, study.sources)
+    if not generators:
+        return section("Shares in the breaking current", [element("p", NO_GENERATOR)])
+    lines = share_lines(outcome.breakings, outcome.delay, generators, study.names)
+    made = table("What generators contribute, in amperes", lines, LEFT)
+    return section("Shares in the breaking current", [made, element("p", WHAT_SHARES_ARE, class_="note")], is_wide(lines))
+
+
+# ---- the inputs
+
+NAMES = ("name", "from", "to", "at bus")
+
+
+def inputs_part(outcome):
+    study = outcome.study
+    tolerance = rows_of(study.rows)[0].decode("ascii").split(",")[1]
+    told = [element("p", f"Voltage tolerance of the low-voltage network: {tolerance} %.")]
+    told += [table(entries.title, [entries.headings, *[[element("bdi", cell) if head in NAMES else cell
+                                                        for head, cell in zip(entries.headings, line)] for line in entries.lines]], NAMES)
+             for entries in entries_of(study)]
+    if study.roundings:
+        told.append(element("p", "Rounded to the units of the program:"))
+        told.append(element("ul", *[element("li", visible(one)) for one in study.roundings]))
+    return section("Inputs", told)
+
+
+def meaning_part():
+    terms = [joined([element("dt", term), element("dd", words)]) for term, words in MEANINGS]
+    return section("What the figures mean and what is promised", [element("dl", *terms), element("div", paragraphs(PROMISE), class_="note")])
+
+
+# ---- a refusal
+
+def refused_parts(refused):
+    found = refused.explanation
+    if found is None:
+        told = [f"line {one.line}: {one.words}" if one.line else one.words for one in refused.mistakes]
+        return [element("p", capital(refused.head), class_="whole over"), element("ul", *[element("li", one) for one in told])]
+    return [element("p", capital(refused.head), class_="whole over"), element("pre", found.picture) if found.picture else Markup(),
+            *[element("p", sentence) for sentence in found.sentences]]
+
+
+# ---- all of it
+
+def accepted_parts(outcome, title):
+    return [verdict_part(outcome.buses), diagram_part(outcome, title), buses_part(outcome), shares_part(outcome), inputs_part(outcome),
+            meaning_part()]
+
+
+def footer(source, data):
+    """What it was made from and by which edition, so that two pages can be told apart."""
+    digest = hashlib.sha256(data).hexdigest()
+    name = clean(name_of(source).rsplit("/", 1)[-1])
+    return element("footer", element("p", f"Made from {name}, {len(data):,} bytes, SHA-256 {digest}, by {edition()}."))
+
+
+def page_of(outcome, source, data):
+    """The page of a study that was read from `source` with the content `data`."""
+    title = clean(title_of(source))
+    parts = refused_parts(outcome) if isinstance(outcome, Refused) else accepted_parts(outcome, title)
+    head = element("head", element("meta", charset="utf-8"), element("meta", http_equiv="Content-Security-Policy", content=ALONE),
+                   element("meta", name="viewport", content="width=device-width, initial-scale=1"),
+                   element("title", f"{title}: short-circuit currents"), element("style", Markup(STYLE)))
+    body = element("body", "\n", element("header", element("h1", title), "\n", element("p", KIND, class_="kind")), "\n",
+                   element("main", joined(parts, "\n")), "\n", footer(source, data), "\n")
+    return "<!DOCTYPE html>\n" + element("html", "\n", head, "\n", body, "\n", lang="en") + "\n"
