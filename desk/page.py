@@ -5,6 +5,7 @@ The same file gives the same bytes: no date stands on it. The figures are those 
 import hashlib
 
 from desk import diagram, oneline
+from desk.blocks import SHEET
 from desk.drawing import drawn_buses, title_of
 from desk.files import name_of
 from desk.inputs import entries_of
@@ -21,10 +22,13 @@ from desk.style import STYLE
 from desk.table import LEFT, NOTE, table_lines, verdict_words
 from desk.verdicts import called, whole, worst_first
 
-KIND = "Short-circuit currents: balanced three-phase fault, maximum case of IEC 60909-0"
+KIND = "Short-circuit currents: balanced three-phase fault, maximum case of "
+STANDARD = element("span", "IEC 60909-0", class_="kept")
 ALONE = "default-src 'none'; style-src 'unsafe-inline'"  # the browser is to fetch nothing and to run nothing
 LISTED = 8  # buses to heed that are named below the verdict of the whole
 WIDE = 118  # characters in a line of a table that an upright sheet still has room for
+TALL = 990  # px of a drawing that still fits below the heading of the first sheet; a larger one gets a sheet of its own
+LONG = 28   # characters of a name that stays on one line
 BADGE = 18
 MEANINGS = (
     ("machines, converters", "The parts of the initial symmetrical short-circuit current I\u2033k that come from the feeder, the generators and "
@@ -77,7 +81,12 @@ def diagram_part(outcome, title):
     drawn = Markup(diagram.drawn(drawing, buses, f"{title}: one-line diagram"))
     box = element("div", drawn, class_="diagram", tabindex=0, role="region", aria_label="One-line diagram",
                   style=f"--wide: {diagram.number(drawing.width)}px")
-    return element("section", element("h2", "One-line diagram"), "\n", box)
+    return element("section", element("h2", "One-line diagram"), "\n", box, class_="sheet" if is_tall(drawing) else "")
+
+
+def is_tall(drawing):
+    """Whether a drawing, as wide as the sheet at most, would have to be made much smaller to fit below the heading."""
+    return drawing.height * min(1, SHEET[0] / drawing.width) > TALL or drawing.width > 1.25 * SHEET[0]
 
 
 # ---- the tables
@@ -87,14 +96,16 @@ def is_wide(lines):
     return sum(max(map(len, column)) + 2 for column in zip(*lines)) > WIDE
 
 
+def named(name):
+    """A name from the file; what it reads from right to left turns nothing else around."""
+    return element("bdi", name, class_="long" if len(name) > LONG else "")
+
+
 def with_marks(lines, buses):
     """The lines of the table of buses with the mark of each verdict before the number, and names and words as such."""
-    places = [place for place, heading in enumerate(lines[0]) if heading == "name"]
-    marked = []
-    for line, bus in zip(lines[1:], buses):
-        cells = [element("bdi", cell) if place in places else cell for place, cell in enumerate(line)]
-        marked.append([joined([badge(bus.letter), cells[0]]), *cells[1:-1], element("span", cells[-1], class_="words")])
-    return [lines[0], *marked]
+    headings, *body = with_names(lines)
+    return [headings, *[[joined([badge(bus.letter), line[0]]), *line[1:-1], element("span", line[-1], class_="words")]
+                        for line, bus in zip(body, buses)]]
 
 
 def section(title, parts, across=False):
@@ -104,7 +115,7 @@ def section(title, parts, across=False):
 def buses_part(outcome):
     column = [heading(outcome.delay)] + [f"{one.figure:,}" for one in outcome.breakings] if outcome.delay else ()
     lines = table_lines(outcome.buses, column)
-    made = table("Currents, ratings and verdict of each bus, in amperes", with_marks(lines, outcome.buses), LEFT,
+    made = table("Currents in amperes", with_marks(lines, outcome.buses), LEFT,
                  [kind_of(bus.letter) for bus in outcome.buses])
     notes = [element("p", NOTE, class_="note")]
     if outcome.delay:
@@ -121,22 +132,25 @@ def shares_part(outcome):
     if not generators:
         return section("Shares in the breaking current", [element("p", NO_GENERATOR)])
     lines = share_lines(outcome.breakings, outcome.delay, generators, study.names)
-    made = table("What generators contribute, in amperes", lines, LEFT)
+    made = table("Shares in amperes", with_names(lines), LEFT)
     return section("Shares in the breaking current", [made, element("p", WHAT_SHARES_ARE, class_="note")], is_wide(lines))
 
 
 # ---- the inputs
 
-NAMES = ("name", "from", "to", "at bus")
+NAMES = ("name", "from", "to", "at bus", "generator")
+
+
+def with_names(lines):
+    """Lines whose cells below the headings of names are such."""
+    return [lines[0], *[[named(cell) if heading in NAMES else cell for heading, cell in zip(lines[0], line)] for line in lines[1:]]]
 
 
 def inputs_part(outcome):
     study = outcome.study
     tolerance = rows_of(study.rows)[0].decode("ascii").split(",")[1]
     told = [element("p", f"Voltage tolerance of the low-voltage network: {tolerance} %.")]
-    told += [table(entries.title, [entries.headings, *[[element("bdi", cell) if head in NAMES else cell
-                                                        for head, cell in zip(entries.headings, line)] for line in entries.lines]], NAMES)
-             for entries in entries_of(study)]
+    told += [table(entries.title, with_names([entries.headings, *entries.lines]), NAMES) for entries in entries_of(study)]
     if study.roundings:
         told.append(element("p", "Rounded to the units of the program:"))
         told.append(element("ul", *[element("li", visible(one)) for one in study.roundings]))
@@ -180,6 +194,6 @@ def page_of(outcome, source, data):
     head = element("head", element("meta", charset="utf-8"), element("meta", http_equiv="Content-Security-Policy", content=ALONE),
                    element("meta", name="viewport", content="width=device-width, initial-scale=1"),
                    element("title", f"{title}: short-circuit currents"), element("style", Markup(STYLE)))
-    body = element("body", "\n", element("header", element("h1", title), "\n", element("p", KIND, class_="kind")), "\n",
+    body = element("body", "\n", element("header", element("h1", title), "\n", element("p", KIND, STANDARD, class_="kind")), "\n",
                    element("main", joined(parts, "\n")), "\n", footer(source, data), "\n")
     return "<!DOCTYPE html>\n" + element("html", "\n", head, "\n", body, "\n", lang="en") + "\n"

@@ -18,8 +18,9 @@ footer {{ margin-top: 2.5rem; padding-top: .75rem; border-top: 1px solid {RULE};
 .whole {{ margin: 1.25rem 0 .5rem; padding: .5rem .9rem; border-left: .35rem solid {COLOURS["W"]}; font-size: 1.15rem; font-weight: 600; max-width: none; }}
 .whole.over {{ border-color: {COLOURS["O"]}; background: {TINTS["O"]}; }}
 .whole.close {{ border-left-style: dashed; border-color: {COLOURS["C"]}; background: {TINTS["C"]}; }}
+dl {{ display: grid; grid-template-columns: max-content 1fr; gap: .35rem 1rem; }}
 dt {{ font-weight: 600; }}
-dd {{ margin: 0 0 .4rem 0; }}
+dd {{ margin: 0; }}
 pre {{ margin: .75rem 0; padding: .75rem .9rem; border: 1px solid {RULE}; overflow-x: auto; overflow-wrap: normal; font: .875rem/1.4 ui-monospace,
   "Liberation Mono", "DejaVu Sans Mono", Consolas, monospace; }}
 .scroll {{ margin: .75rem 0 1.5rem; overflow-x: auto; }}
@@ -32,7 +33,9 @@ thead th {{ vertical-align: bottom; border-bottom: 1.5px solid {INK}; font-weigh
 tbody th {{ font-weight: 400; }}
 tbody th[scope="row"] {{ position: sticky; left: 0; background: {PAPER}; }}
 th.left, td.left {{ text-align: left; white-space: normal; }}
-bdi {{ display: inline-block; min-width: min(6rem, 100%); max-width: 20rem; overflow-wrap: anywhere; }}
+td bdi, th bdi {{ white-space: nowrap; }}
+td bdi.long, th bdi.long {{ display: inline-block; width: 16rem; white-space: normal; overflow-wrap: anywhere; }}
+.kept {{ white-space: nowrap; }}
 tr.over td, tr.over th {{ background: {TINTS["O"]}; }}
 tr.close td, tr.close th {{ background: {TINTS["C"]}; }}
 tr.over .words {{ color: {COLOURS["O"]}; font-weight: 600; }}
@@ -42,21 +45,26 @@ tr.close .words {{ color: {COLOURS["C"]}; font-weight: 600; }}
 @media (max-width: 40rem) {{
   body {{ padding: 1.25rem 1rem 2rem; }}
   h1 {{ font-size: 1.4rem; }}
+  dl {{ display: block; }}
+  dd {{ margin-bottom: .5rem; }}
   th, td {{ padding: .3rem .45rem; }}
-  bdi {{ max-width: 11rem; }}
+  td bdi.long, th bdi.long {{ width: 10rem; }}
 }}
 @page {{ size: A4 portrait; margin: 14mm 12mm; }}
 @page across {{ size: A4 landscape; }}
 @media print {{
   * {{ -webkit-print-color-adjust: exact; print-color-adjust: exact; }}
-  body {{ padding: 0; max-width: none; font-size: 10pt; line-height: 1.4; }}
-  h1 {{ font-size: 16pt; }}
-  h2 {{ margin-top: 14pt; font-size: 12pt; break-after: avoid; }}
+  html {{ font-size: 10pt; }}
+  body {{ padding: 0; max-width: none; line-height: 1.4; }}
+  h2 {{ margin-top: 1.25rem; break-after: avoid; }}
+  .whole {{ margin: .75rem 0 .25rem; }}
   p, ul, dl {{ max-width: none; }}
   .across {{ page: across; }}
   .scroll, .diagram {{ overflow: visible; border: 0; }}
-  .diagram > svg {{ min-width: 0; max-width: min(100%, var(--wide)); max-height: 225mm; break-inside: avoid; }}
-  table {{ font-size: 8.5pt; }}
+  .diagram > svg {{ min-width: 0; max-width: min(100%, var(--wide)); max-height: 210mm; break-inside: avoid; }}
+  .sheet {{ break-before: page; }}
+  .sheet .diagram > svg {{ max-height: 252mm; }}
+  table {{ font-size: 8.5pt; line-height: 1.3; }}
   caption {{ break-after: avoid; }}
   thead {{ display: table-header-group; }}
   tr {{ break-inside: avoid; }}
