@@ -8,13 +8,14 @@ from desk.help import HELP, USAGE
 from desk.program import ROOT
 from desk.rewriting import as_plan, as_rows, fixed, in_rows
 from desk.streams import Answer, complain, deliver
-from desk.studies import shown
+from desk.studies import Options, shown
 from desk.trouble import Trouble
 
+PRINTING = {"--exact", "--units", "--why", "--order", "--confirm"}
 # By the option that says what is done: the options that may stand beside it, and how many names there may be.
 FORMS = {
-    "": ({"--exact"}, (1,)),
-    "--breaking": ({"--exact"}, (1,)),
+    "": (PRINTING, (1,)),
+    "--breaking": (PRINTING, (1,)),
     "--fix": ({"--force"}, (2,)),
     "--toml": ({"--force"}, (1, 2)),
     "--rows": ({"--force", "--exact"}, (1, 2)),
@@ -73,7 +74,13 @@ def carried_out(words):
         return in_rows(source, target, force, exact)
     if form == "--svg":
         return as_diagram(source, target, force, exact)
-    return shown(source, exact, options.get("--breaking", ""))
+    return shown(source, asked(options))
+
+
+def asked(options):
+    """What is asked for beside the table."""
+    units, why, order, confirm = (word in options for word in ("--units", "--why", "--order", "--confirm"))
+    return Options("--exact" in options, options.get("--breaking", ""), units, why, order, confirm)
 
 
 def revision():
