@@ -12,6 +12,7 @@ from desk.trouble import Trouble, reason
 
 FOLDER = ROOT / "tests/judge"
 WIDTH = 126
+MOST = 20  # lines of differences that are shown
 WHAT_IT_DID = """\
 The exact-fraction program of tests/judge, which shares no code with the proved programs, read the rows and worked out every current
 anew. Each pair of bounds holds the exact current and is no wider than 2 A plus a thousandth; each peak, of the machines and of the
@@ -51,9 +52,11 @@ def confirmed(text, buses, found=(), delay=""):
 
 def differing(differences, buses):
     """The differences in words, each with its bus."""
-    head = ("NOT CONFIRMED: the exact-fraction program of tests/judge differs from what the proved programs gave, so that nothing is "
-            "shown (amperes; sources count from 0 in the order of the P rows)")
-    return "\n".join([head] + [f"  {place(number, buses)}{words}" for number, words in differences])
+    head = ("not confirmed: the exact-fraction program of tests/judge differs from what the proved programs gave, so that no figure is "
+            "shown. All in amperes; sources count from 0, in the order of their rows.")
+    told = [f"  {place(number, buses)}{words}" for number, words in differences[:MOST]]
+    more = len(differences) - len(told)
+    return "\n".join([head, *told] + ([f"  and {more:,} lines more"] if more else []))
 
 
 def place(number, buses):

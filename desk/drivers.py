@@ -86,7 +86,11 @@ def line(one, units):
             units.amperes(one.bus.peak_rating), *cells(one.machines_peak, units), *cells(one.both_peak, units), one.words)
 
 
+def driver_lines(buses, units=WHOLE):
+    """The cells of the table, the headings first."""
+    return with_names([HEADINGS] + [line(one, units) for one in drivers_of(buses)], buses)
+
+
 def drivers(buses, units=WHOLE):
     """What stands below the table of buses."""
-    lines = [HEADINGS] + [line(one, units) for one in drivers_of(buses)]
-    return "\n\n".join([TITLE, columns(with_names(lines, buses)), NOTE])
+    return "\n\n".join([TITLE, columns(driver_lines(buses, units)), NOTE])

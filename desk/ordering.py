@@ -79,8 +79,12 @@ def line(one, units):
             units.amperes(one.bus.peak), peak_rating, peak_margin, one.decided_by)
 
 
+def suggestion_lines(buses, units=WHOLE):
+    """The cells of the table, the headings first."""
+    heads = tuple(heading.format(units.voltage) for heading in HEADINGS)
+    return with_names([heads] + [line(one, units) for one in suggestions_of(buses)], buses)
+
+
 def suggestions(buses, units=WHOLE):
     """What stands below the table of buses."""
-    heads = tuple(heading.format(units.voltage) for heading in HEADINGS)
-    lines = [heads] + [line(one, units) for one in suggestions_of(buses)]
-    return "\n\n".join([TITLE, columns(with_names(lines, buses)), NOTE])
+    return "\n\n".join([TITLE, columns(suggestion_lines(buses, units)), NOTE])

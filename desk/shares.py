@@ -95,13 +95,14 @@ def bus_lines(number, breaking, generators, units):
 
 # ---- all of it
 
-def table_of_shares(found, delay, generators, names, units):
+def share_lines(found, delay, generators, names, units=WHOLE):
+    """The cells of the table of shares, the headings first."""
     by_bus = [bus_lines(number, breaking, generators, units) for number, breaking in enumerate(found)]
     lines = [("bus", heading(delay), "generator", "share", "of Ib at most")] + [line for lines in by_bus for line in lines]
     if names:
         column = [name if place == 0 else "" for name, lines in zip(names, by_bus) for place in range(len(lines))]
         lines = with_column(lines, 1, ["name", *column])
-    return columns(lines)
+    return lines
 
 
 def shares(study_text, found, delay, bus_names=(), source_names=(), units=WHOLE):
@@ -110,4 +111,4 @@ def shares(study_text, found, delay, bus_names=(), source_names=(), units=WHOLE)
     what = WHAT_IT_IS.format(delay)
     if not generators:
         return f"{what}\n\n{NO_GENERATOR}"
-    return "\n\n".join([what, table_of_shares(found, delay, generators, bus_names, units), WHAT_SHARES_ARE])
+    return "\n\n".join([what, columns(share_lines(found, delay, generators, bus_names, units)), WHAT_SHARES_ARE])

@@ -76,13 +76,22 @@ def power_column(buses):
     return [POWER] + [" to ".join(map(tenths, power(bus))) for bus in buses]
 
 
-def table(buses, breaking=(), units=WHOLE):
-    """The table of an accepted study, from the Figures of its buses; with their names, and with a column of breaking currents below
-    its heading, where there are any. In kV and kA it has a column of short-circuit power too."""
+def table_lines(buses, breaking=(), units=WHOLE):
+    """The cells of the table of an accepted study, the headings first, from the Figures of its buses; with their names, and with a
+    column of breaking currents below its heading, where there are any. In kV and kA it has a column of short-circuit power too."""
     lines = [headings(units)] + [bus_line(bus, units) for bus in buses]
-    place, notes = lines[0].index("peak"), [NOTE.format(units.currents)]
+    place = lines[0].index("peak")
     if breaking:
         lines = with_column(lines, place, breaking)
     if units is KILO:
-        lines, notes = with_column(lines, place, power_column(buses)), [*notes, WHAT_POWER_IS]
-    return columns(with_names(lines, buses)) + "\n\n" + "\n".join(notes)
+        lines = with_column(lines, place, power_column(buses))
+    return with_names(lines, buses)
+
+
+def note(units=WHOLE):
+    """What stands below the table."""
+    return NOTE.format(units.currents) + (f"\n{WHAT_POWER_IS}" if units is KILO else "")
+
+
+def table(buses, breaking=(), units=WHOLE):
+    return columns(table_lines(buses, breaking, units)) + "\n\n" + note(units)

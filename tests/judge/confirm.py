@@ -7,7 +7,7 @@ figure is held against exact fractions; nothing of what printed them is used.
 from typing import NamedTuple
 
 from accept import Study
-from breaking import BreakingJudge
+from breaking import BreakingJudge, share_reasons
 from exact import GENERATOR
 from judge import Amperes, Bench, verdict_reasons
 
@@ -77,9 +77,9 @@ def bus_reasons(judge, one, record):
 def exact_words(judge):
     parts = []
     for name, part in (("machines", judge.machines), ("converters", judge.converters)):
-        peak = f"their peak at most {part.peak_ceiling()}"
-        parts.append(f"{name} from {part.floor()} to {part.ceiling()}, {peak}")
-    return "exact, to the next whole amperes: " + "; ".join(parts)
+        peak = f"peak {part.peak_ceiling()} rounded up"
+        parts.append(f"{name} {part.floor()} to {part.ceiling()}, {peak}")
+    return "exact: " + "; ".join(parts)
 
 
 def breaking_reasons(judge, one, delay):
@@ -87,12 +87,14 @@ def breaking_reasons(judge, one, delay):
     if len(one.table) != 2 * len(judge.sources):
         return [f"{len(one.table)} bounds of shares for {len(judge.sources)} sources"]
     found = judge.reasons(delay, one.breaking, one.table)
-    return found + ([exact_breaking(judge, delay)] if found else [])
+    return found + ([exact_breaking(judge, one, delay)] if found else [])
 
 
-def exact_breaking(judge, delay):
-    parts = [f"breaking current at most {judge.sum(delay).ceiling()}"]
+def exact_breaking(judge, one, delay):
+    """The exact breaking current, and the exact shares that lie outside their bounds."""
+    parts = [f"breaking current {judge.sum(delay).ceiling()} rounded up"]
     for place, share in judge.generators():
         square = share.square
-        parts.append(f"source {place} from {square.root_floor()} to {square.root_ceiling()}")
-    return "exact, to the next whole amperes: " + "; ".join(parts)
+        if share_reasons(place, *one.table[2 * place : 2 * place + 2], square):
+            parts.append(f"source {place} {square.root_floor()} to {square.root_ceiling()}")
+    return "exact: " + "; ".join(parts)
