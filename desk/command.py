@@ -7,15 +7,20 @@ from desk.revision import edition
 from desk.rewriting import as_plan, as_rows, fixed, in_rows
 from desk.several import listed
 from desk.streams import Answer, complain, deliver
-from desk.studies import shown
+from desk.studies import Options, shown
 from desk.trouble import Trouble
 
 HANDING = {"--html": as_page, "--json": as_json, "--csv": as_csv}
+PRINTING = {"--exact", "--units", "--why", "--order", "--confirm", "--strict"}
+SEVERAL = {"--exact", "--strict"}
+WRITING = {"--exact", "--strict", "--force", "--breaking", "--confirm"}
 # By the option that says what is done: the options that may stand beside it, and how many names there may be.
 FORMS = {
-    "": ({"--exact", "--strict"}, range(1, 100_000)),
-    **{form: ({"--force", "--exact", "--strict", "--breaking"}, (1, 2)) for form in HANDING},
-    "--breaking": ({"--exact", "--strict"}, (1,)),
+    "": (PRINTING, range(1, 100_000)),
+    "--html": (WRITING | {"--units"}, (1, 2)),
+    "--json": (WRITING, (1, 2)),
+    "--csv": (WRITING, (1, 2)),
+    "--breaking": (PRINTING, (1,)),
     "--fix": ({"--force"}, (2,)),
     "--toml": ({"--force"}, (1, 2)),
     "--rows": ({"--force", "--exact"}, (1, 2)),
@@ -51,7 +56,9 @@ def form_of(options, names):
     """The option that says what is done, where the others and the number of names go with it."""
     form = next((option for option in FORMS if option in options), "")
     beside, counts = FORMS[form]
-    if not options.keys() <= beside | {form} or len(names) not in counts or names.count("-") > 1 and form == "":
+    if not form and len(names) > 1:
+        beside = SEVERAL
+    if not options.keys() <= beside | {form} or len(names) not in counts or not form and names.count("-") > 1:
         raise Usage()
     return form
 
@@ -75,8 +82,14 @@ def carried_out(words):
     if form == "--svg":
         return as_diagram(source, target, force, exact)
     if form in HANDING:
-        return HANDING[form](source, target, force, exact, options.get("--breaking", ""))
-    return listed(names, exact) if len(names) > 1 else shown(source, exact, options.get("--breaking", ""))
+        return HANDING[form](source, target, force, asked(options))
+    return listed(names, exact) if len(names) > 1 else shown(source, asked(options))
+
+
+def asked(options):
+    """What is asked for beside the table."""
+    units, why, order, confirm = (word in options for word in ("--units", "--why", "--order", "--confirm"))
+    return Options("--exact" in options, options.get("--breaking", ""), units, why, order, confirm)
 
 
 def status_of(answer, strict):

@@ -4,8 +4,10 @@ import io
 import json
 import unicodedata
 
+from desk.drivers import driver
 from desk.inputs import by_key, inputs_of, kind_of_branch, kind_of_source
 from desk.oneline import VERDICT_WORDS
+from desk.ordering import suggestion
 from desk.outcome import Refused
 from desk.plan.fields import TOLERANCE
 from desk.records import GENERATOR
@@ -22,16 +24,23 @@ def rated(bus):
 
 
 def amperes_of(bus):
-    """The currents of a bus and what is left of its ratings: of the initial current's beyond the upper bound."""
+    """The currents of a bus, and its margins as `board --why` has them: none where the rating lies between the bounds."""
+    drives = driver(bus)
     return {"machines_lower_A": bus.lower, "machines_upper_A": bus.upper,
             "converters_lower_A": bus.converters_lower, "converters_upper_A": bus.converters_upper,
             "initial_lower_A": bus.low, "initial_upper_A": bus.high,
             "machines_peak_A": bus.machines_peak, "converters_peak_A": bus.converters_peak, "peak_A": bus.peak,
-            "initial_margin_A": bus.rating - bus.high, "peak_margin_A": bus.peak_rating - bus.peak}
+            "initial_margin_A": drives.both.margin, "peak_margin_A": drives.both_peak.margin}
 
 
 def verdict_of(bus):
-    return {"verdict": VERDICT_WORDS[bus.letter], "verdict_words": verdict_words(bus)}
+    return {"verdict": VERDICT_WORDS[bus.letter], "verdict_words": verdict_words(bus), "driven_by": driver(bus).words}
+
+
+def to_order(bus):
+    """The rating that is suggested; none where the series has none."""
+    rating = suggestion(bus).rating
+    return {"suggested_initial_A": rating and rating.current, "suggested_peak_A": rating and rating.peak}
 
 
 # ---- JSON
@@ -79,9 +88,11 @@ def json_of(outcome):
     if isinstance(outcome, Refused):
         return text_of({"accepted": False, "refusal": refusal_entry(outcome)})
     told = {"accepted": True, "study": study_entry(outcome.study, outcome.buses),
-            "figures": [{"bus": bus.number, **amperes_of(bus), **verdict_of(bus)} for bus in outcome.buses]}
+            "figures": [{"bus": bus.number, **amperes_of(bus), **verdict_of(bus), **to_order(bus)} for bus in outcome.buses]}
     if outcome.delay:
         told["breaking"] = breaking_entry(outcome)
+    if outcome.confirmation:
+        told["confirmation"] = " ".join(outcome.confirmation.split())
     return text_of(told)
 
 
@@ -108,7 +119,8 @@ def safe(name):
 def line_of(bus, breaking):
     """The cells of a bus by their headings."""
     extra = {"delay_ms": breaking[0], "breaking_A": breaking[1].figure} if breaking else {}
-    return {"bus": bus.number, "name": safe(bus.name), **rated(bus), **amperes_of(bus), **extra, **verdict_of(bus)}
+    return {"bus": bus.number, "name": safe(bus.name), **rated(bus), **amperes_of(bus), **extra, **verdict_of(bus),
+            **to_order(bus)}
 
 
 def csv_of(outcome):

@@ -9,26 +9,28 @@ from desk.verdicts import is_to_heed
 
 
 def handed(content, outcome, target, force):
-    """Writes what was made of an outcome; what was rounded, or why it was refused, goes to standard error besides."""
+    """Writes what was made of an outcome. What was rounded, what was confirmed and why a study was refused goes to standard error
+    besides."""
     if isinstance(outcome, Refused):
         return written(content, target, force, outcome.words)._replace(status=1)
-    return written(content, target, force, rounded(outcome.study))._replace(heed=is_to_heed(outcome.buses))
+    notes = "\n".join(filter(None, [rounded(outcome.study), outcome.confirmation]))
+    return written(content, target, force, notes)._replace(heed=is_to_heed(outcome.buses))
 
 
-def as_page(source, target, force, exact, delay):
+def as_page(source, target, force, options):
     data = source_of(source, target)
-    outcome = outcome_of(source, data, exact, delay)
+    outcome = outcome_of(source, data, options)
     return handed(page_of(outcome, source, data).encode("utf-8"), outcome, target, force)
 
 
-def as_json(source, target, force, exact, delay):
-    outcome = outcome_of(source, source_of(source, target), exact, delay)
+def as_json(source, target, force, options):
+    outcome = outcome_of(source, source_of(source, target), options)
     return handed((json_of(outcome) + "\n").encode("utf-8"), outcome, target, force)
 
 
-def as_csv(source, target, force, exact, delay):
+def as_csv(source, target, force, options):
     """A refused study has no line for a bus, and nothing is written."""
-    outcome = outcome_of(source, source_of(source, target), exact, delay)
+    outcome = outcome_of(source, source_of(source, target), options)
     if isinstance(outcome, Refused):
         return Answer(1, notes=outcome.words)
     return handed(csv_of(outcome).encode("utf-8"), outcome, target, force)

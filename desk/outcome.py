@@ -3,20 +3,24 @@ import re
 from typing import NamedTuple
 
 from desk.breaking import breakings
+from desk.confirming import confirmed, sentence
 from desk.figures import figures_of
 from desk.plan import Mistakes
 from desk.program import Refusal, answer
 from desk.refusals import Explanation
 from desk.show import visible
 from desk.studies import Study, explanation_of, from_plan, is_plan, mistakes_head, mistaken
+from desk.units import KILO, WHOLE, Units
 
 
 class Accepted(NamedTuple):
     study: Study
-    answers: list    # what the program printed for each bus
-    buses: list      # their Figures
-    delay: str       # of the breaking currents, in ms; empty where none were asked for
-    breakings: list  # the Breaking of each bus, where they were
+    answers: list      # what the program printed for each bus
+    buses: list        # their Figures
+    delay: str         # of the breaking currents, in ms; empty where none were asked for
+    breakings: list    # the Breaking of each bus, where they were
+    units: Units       # in which people read them
+    confirmation: str  # what the second opinion says, where it was asked for
 
 
 class Mistake(NamedTuple):
@@ -39,14 +43,23 @@ def mistake_of(words):
     return Mistake(int(line or 0), said)
 
 
-def outcome_of(path, data, exact, delay=""):
+def accepted(study, answers, options):
+    """An accepted study with all that is asked for."""
+    delay = options.delay
+    buses = figures_of(study.rows, answers, study.names)
+    found = breakings(study.rows, delay) if delay else []
+    words = sentence(confirmed(study.rows, buses, found, delay), delay) if options.confirm else ""
+    return Accepted(study, answers, buses, delay, found, KILO if options.units else WHOLE, words)
+
+
+def outcome_of(path, data, options):
     """What becomes of the content of a file."""
     try:
-        study = from_plan(data, exact) if is_plan(path, data) else Study(data)
+        study = from_plan(data, options.exact) if is_plan(path, data) else Study(data)
     except Mistakes as found:
         return Refused(mistakes_head(found), mistaken(found), mistakes=tuple(map(mistake_of, found.mistakes)))
     got = answer(study.rows)
     if isinstance(got, Refusal):
         explained = explanation_of(study, got)
         return Refused(explained.head(), explained.text(), explained)
-    return Accepted(study, got, figures_of(study.rows, got, study.names), delay, breakings(study.rows, delay) if delay else [])
+    return accepted(study, got, options)

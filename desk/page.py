@@ -4,7 +4,7 @@ The same file gives the same bytes: no date stands on it. The figures are those 
 """
 import hashlib
 
-from desk import diagram, oneline
+from desk import diagram, drivers, oneline, ordering
 from desk.blocks import SHEET
 from desk.drawing import drawn_buses, title_of
 from desk.files import name_of
@@ -16,10 +16,11 @@ from desk.outcome import Refused
 from desk.records import rows_of
 from desk.refusals import capital
 from desk.revision import edition
-from desk.shares import NO_GENERATOR, WHAT_IT_IS, WHAT_SHARES_ARE, generators_of, heading, share_lines
+from desk.shares import NO_GENERATOR, WHAT_IT_IS, WHAT_SHARES_ARE, generators_of, share_lines
 from desk.show import visible
+from desk.studies import breaking_column
 from desk.style import STYLE
-from desk.table import LEFT, NOTE, table_lines, verdict_words
+from desk.table import LEFT, columns, note, table_lines, verdict_words
 from desk.verdicts import called, whole, worst_first
 
 KIND = "Short-circuit currents: balanced three-phase fault, maximum case of "
@@ -59,17 +60,19 @@ def kind_of(letter):
     return oneline.VERDICT_WORDS[letter]
 
 
-def to_heed(buses):
+def to_heed(buses, units):
     """The buses that are over or close, the worst first."""
     found = [bus for bus in worst_first(buses) if bus.letter != "W"]
-    told = [element("li", badge(bus.letter), element("bdi", capital(called(bus))), f": {verdict_words(bus)}") for bus in found[:LISTED]]
+    told = [element("li", badge(bus.letter), element("bdi", capital(called(bus))), f": {verdict_words(bus, units)}")
+            for bus in found[:LISTED]]
     more = len(found) - len(told)
     return element("ul", *told, *[element("li", f"and {more} more in the table below")] * bool(more)) if found else Markup()
 
 
-def verdict_part(buses):
+def verdict_part(outcome):
+    buses = outcome.buses
     letter = worst_first(buses)[0].letter
-    return joined([element("p", whole(buses), class_=f"whole {kind_of(letter)}"), to_heed(buses)], "\n")
+    return joined([element("p", whole(buses), class_=f"whole {kind_of(letter)}"), to_heed(buses, outcome.units)], "\n")
 
 
 # ---- the diagram
@@ -93,7 +96,7 @@ def is_tall(drawing):
 
 def is_wide(lines):
     """Whether a table asks for a sheet that lies across."""
-    return sum(max(map(len, column)) + 2 for column in zip(*lines)) > WIDE
+    return max(map(len, columns(lines).split("\n"))) > WIDE
 
 
 def named(name):
@@ -103,7 +106,7 @@ def named(name):
 
 def with_marks(lines, buses):
     """The lines of the table of buses with the mark of each verdict before the number, and names and words as such."""
-    headings, *body = with_names(lines)
+    headings, *body = marked_names(lines)
     return [headings, *[[joined([badge(bus.letter), line[0]]), *line[1:-1], element("span", line[-1], class_="words")]
                         for line, bus in zip(body, buses)]]
 
@@ -113,27 +116,37 @@ def section(title, parts, across=False):
 
 
 def buses_part(outcome):
-    column = [heading(outcome.delay)] + [f"{one.figure:,}" for one in outcome.breakings] if outcome.delay else ()
-    lines = table_lines(outcome.buses, column)
-    made = table("Currents in amperes", with_marks(lines, outcome.buses), LEFT,
-                 [kind_of(bus.letter) for bus in outcome.buses])
-    notes = [element("p", NOTE, class_="note")]
-    if outcome.delay:
-        notes.append(element("div", paragraphs(WHAT_IT_IS.format(outcome.delay)), class_="note"))
-    return section("Buses", [made, *notes], is_wide(lines))
+    units = outcome.units
+    lines = table_lines(outcome.buses, breaking_column(outcome.breakings, outcome.delay, units), units)
+    made = table(f"Currents in {units.currents}", with_marks(lines, outcome.buses), LEFT, [kind_of(bus.letter) for bus in outcome.buses])
+    notes = "\n\n".join([note(units), WHAT_IT_IS.format(outcome.delay)] if outcome.delay else [note(units)])
+    return section("Buses", [made, element("div", paragraphs(notes), class_="note")], is_wide(lines))
+
+
+def further_part(title, caption, lines, notes):
+    """A table that stands behind that of the buses, and what is to be known of it."""
+    made = table(caption, marked_names(lines), LEFT)
+    return section(title, [made, element("div", paragraphs(notes), class_="note")], is_wide(lines))
 
 
 def shares_part(outcome):
     """Who contributes how much to the breaking currents; nothing where these were not asked for."""
-    if not outcome.delay:
-        return Markup()
-    study = outcome.study
+    study, title = outcome.study, "Shares in the breaking current"
     generators = generators_of(study.rows, study.names, study.sources)
-    if not generators:
-        return section("Shares in the breaking current", [element("p", NO_GENERATOR)])
-    lines = share_lines(outcome.breakings, outcome.delay, generators, study.names)
-    made = table("Shares in amperes", with_names(lines), LEFT)
-    return section("Shares in the breaking current", [made, element("p", WHAT_SHARES_ARE, class_="note")], is_wide(lines))
+    if not outcome.delay or not generators:
+        return section(title, [element("p", NO_GENERATOR)]) if outcome.delay else Markup()
+    lines = share_lines(outcome.breakings, outcome.delay, generators, study.names, outcome.units)
+    return further_part(title, f"Shares in {outcome.units.currents}", lines, WHAT_SHARES_ARE)
+
+
+def drivers_part(outcome):
+    lines = drivers.driver_lines(outcome.buses, outcome.units)
+    return further_part(drivers.TITLE, f"Currents in {outcome.units.currents}", lines, drivers.NOTE)
+
+
+def ordering_part(outcome):
+    lines = ordering.suggestion_lines(outcome.buses, outcome.units)
+    return further_part(ordering.TITLE, f"Currents in {outcome.units.currents}", lines, ordering.NOTE)
 
 
 # ---- the inputs
@@ -141,7 +154,7 @@ def shares_part(outcome):
 NAMES = ("name", "from", "to", "at bus", "generator")
 
 
-def with_names(lines):
+def marked_names(lines):
     """Lines whose cells below the headings of names are such."""
     return [lines[0], *[[named(cell) if heading in NAMES else cell for heading, cell in zip(lines[0], line)] for line in lines[1:]]]
 
@@ -150,16 +163,17 @@ def inputs_part(outcome):
     study = outcome.study
     tolerance = rows_of(study.rows)[0].decode("ascii").split(",")[1]
     told = [element("p", f"Voltage tolerance of the low-voltage network: {tolerance} %.")]
-    told += [table(entries.title, with_names([entries.headings, *entries.lines]), NAMES) for entries in entries_of(study)]
+    told += [table(entries.title, marked_names([entries.headings, *entries.lines]), NAMES) for entries in entries_of(study)]
     if study.roundings:
         told.append(element("p", "Rounded to the units of the program:"))
         told.append(element("ul", *[element("li", visible(one)) for one in study.roundings]))
     return section("Inputs", told)
 
 
-def meaning_part():
+def meaning_part(confirmation):
     terms = [joined([element("dt", term), element("dd", words)]) for term, words in MEANINGS]
-    return section("What the figures mean and what is promised", [element("dl", *terms), element("div", paragraphs(PROMISE), class_="note")])
+    told = "\n\n".join(filter(None, [PROMISE, confirmation]))
+    return section("What the figures mean and what is promised", [element("dl", *terms), element("div", paragraphs(told), class_="note")])
 
 
 # ---- a refusal
@@ -176,8 +190,8 @@ def refused_parts(refused):
 # ---- all of it
 
 def accepted_parts(outcome, title):
-    return [verdict_part(outcome.buses), diagram_part(outcome, title), buses_part(outcome), shares_part(outcome), inputs_part(outcome),
-            meaning_part()]
+    return [verdict_part(outcome), diagram_part(outcome, title), buses_part(outcome), shares_part(outcome), drivers_part(outcome),
+            ordering_part(outcome), inputs_part(outcome), meaning_part(outcome.confirmation)]
 
 
 def footer(source, data):

@@ -5,6 +5,7 @@ from desk import files
 from desk.outcome import Refused, outcome_of
 from desk.show import visible
 from desk.streams import Answer, fitted
+from desk.studies import Options
 from desk.table import columns, verdict_words
 from desk.trouble import Trouble
 from desk.verdicts import called, count_of, is_to_heed, worst
@@ -31,7 +32,7 @@ def tried(path, exact):
         data = files.whole(path, files.read(path))
     except Trouble as trouble:
         return 2, False, (name, *NONE, f"not read: {str(trouble).removeprefix(files.name_of(path) + ': ')}")
-    outcome = outcome_of(path, data, exact)
+    outcome = outcome_of(path, data, Options(exact))
     refused = isinstance(outcome, Refused)
     return int(refused), not refused and is_to_heed(outcome.buses), (name, *cells_of(outcome))
 

@@ -6,6 +6,10 @@ from typing import NamedTuple
 from desk.trouble import Trouble
 
 
+# What stands for a letter that an encoding has not, where it has a name; the mark of I″k is as wide as its stand-in.
+STAND_INS = {"Ω": "ohm", "μ": "mu", "″": '"', "√": "root "}
+
+
 class Answer(NamedTuple):
     """The exit status, what goes to standard output (text, or bytes as they are) and what to standard error."""
     status: int
@@ -15,13 +19,13 @@ class Answer(NamedTuple):
 
 
 def fitted(words, stream):
-    """Words as a stream can show them: what its encoding has not comes as \\x codes, ohm and mu by their names."""
+    """Words as a stream can show them: what its encoding has not comes by its stand-in, or else as \\x codes."""
     encoding = getattr(stream, "encoding", None) or "ascii"
     try:
         words.encode(encoding)
         return words
     except UnicodeEncodeError:
-        return words.replace("Ω", "ohm").replace("μ", "mu").encode(encoding, "backslashreplace").decode(encoding)
+        return words.translate(str.maketrans(STAND_INS)).encode(encoding, "backslashreplace").decode(encoding)
 
 
 def silence(stream):
