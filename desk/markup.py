@@ -4,6 +4,7 @@ from xml.sax.saxutils import escape
 from desk.lettering import harmless
 
 VOID = ("meta",)  # elements that hold nothing and have no end
+SHORT = 20  # lines of a table that is not cut from sheet to sheet
 
 
 class Markup(str):
@@ -47,7 +48,7 @@ def table(caption, lines, left, kinds=()):
     rows = [row(line, sides, kind) for line, kind in zip(body, kinds or [""] * len(body))]
     whole = element("table", element("caption", caption), "\n", element("thead", head), "\n",
                     element("tbody", "\n", joined(rows, "\n"), "\n"))
-    return element("div", whole, class_="scroll", tabindex=0, role="region", aria_label=caption)
+    return element("div", whole, class_="scroll short" if len(body) <= SHORT else "scroll", tabindex=0, role="region", aria_label=caption)
 
 
 def paragraphs(text):

@@ -5,7 +5,6 @@ The same file gives the same bytes: no date stands on it. The figures are those 
 import hashlib
 
 from desk import diagram, drivers, oneline, ordering
-from desk.blocks import SHEET
 from desk.drawing import drawn_buses, title_of
 from desk.files import name_of
 from desk.inputs import entries_of
@@ -17,6 +16,7 @@ from desk.records import rows_of
 from desk.refusals import capital
 from desk.revision import edition
 from desk.shares import NO_GENERATOR, WHAT_IT_IS, WHAT_SHARES_ARE, generators_of, share_lines
+from desk.sheets import windows
 from desk.show import visible
 from desk.studies import breaking_column
 from desk.style import STYLE
@@ -28,8 +28,9 @@ STANDARD = element("span", "IEC 60909-0", class_="kept")
 ALONE = "default-src 'none'; style-src 'unsafe-inline'"  # the browser is to fetch nothing and to run nothing
 LISTED = 8  # buses to heed that are named below the verdict of the whole
 WIDE = 118  # characters in a line of a table that an upright sheet still has room for
-TALL = 990  # px of a drawing that still fits below the heading of the first sheet; a larger one gets a sheet of its own
-LONG = 28   # characters of a name that stays on one line
+TALL = 1060  # px of a drawing that still fits below the heading of the first sheet; a taller one gets a sheet of its own
+LONG = 28    # characters of a name that stays on one line
+DRAWING = "drawing"
 BADGE = 18
 MEANINGS = (
     ("machines, converters", "The parts of the initial symmetrical short-circuit current I\u2033k that come from the feeder, the generators and "
@@ -81,15 +82,22 @@ def diagram_part(outcome, title):
     """The drawing of --svg without its title, which stands on the page; as wide as the page has room for."""
     buses = drawn_buses(outcome.study, outcome.answers, outcome.buses)
     drawing = layout(buses, "")
-    drawn = Markup(diagram.drawn(drawing, buses, f"{title}: one-line diagram"))
+    cut = windows(drawing)
+    drawn = Markup(diagram.drawn(drawing, buses, f"{title}: one-line diagram", DRAWING if cut else ""))
     box = element("div", drawn, class_="diagram", tabindex=0, role="region", aria_label="One-line diagram",
                   style=f"--wide: {diagram.number(drawing.width)}px")
-    return element("section", element("h2", "One-line diagram"), "\n", box, class_="sheet" if is_tall(drawing) else "")
+    kind = "large" if cut else "sheet" if drawing.height > TALL else ""
+    return element("section", element("h2", "One-line diagram"), "\n", box, *[window_part(one, len(cut)) for one in enumerate(cut, 1)],
+                   class_=kind)
 
 
-def is_tall(drawing):
-    """Whether a drawing, as wide as the sheet at most, would have to be made much smaller to fit below the heading."""
-    return drawing.height * min(1, SHEET[0] / drawing.width) > TALL or drawing.width > 1.25 * SHEET[0]
+def window_part(numbered, count):
+    """A part of a large drawing, for paper alone; on a screen the whole is there to scroll."""
+    place, (box, column, row) = numbered
+    view = " ".join(map(diagram.number, (box.left, box.top, box.right - box.left, box.bottom - box.top)))
+    again = element("svg", element("use", href=f"#{DRAWING}"), viewBox=view, font_family=diagram.FONTS)
+    return element("div", element("p", f"Sheet {place} of {count}: column {column}, row {row} of the diagram"), again, class_="part",
+                   aria_hidden="true")
 
 
 # ---- the tables

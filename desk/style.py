@@ -25,6 +25,8 @@ pre {{ margin: .75rem 0; padding: .75rem .9rem; border: 1px solid {RULE}; overfl
   "Liberation Mono", "DejaVu Sans Mono", Consolas, monospace; }}
 .scroll {{ margin: .75rem 0 1.5rem; overflow-x: auto; }}
 .diagram {{ margin: .75rem 0; overflow: auto; border: 1px solid {RULE}; }}
+.large .diagram {{ max-height: 90vh; }}
+.part {{ display: none; }}
 .diagram > svg {{ display: block; width: 100%; max-width: var(--wide); min-width: calc(var(--wide) * .8); height: auto; margin: 0 auto; }}
 table {{ border-collapse: collapse; font-size: .875rem; line-height: 1.35; overflow-wrap: normal; }}
 caption {{ padding: 0 0 .4rem; text-align: left; font-weight: 600; }}
@@ -33,6 +35,7 @@ thead th {{ vertical-align: bottom; border-bottom: 1.5px solid {INK}; font-weigh
 tbody th {{ font-weight: 400; }}
 tbody th[scope="row"] {{ position: sticky; left: 0; background: {PAPER}; }}
 th.left, td.left {{ text-align: left; white-space: normal; }}
+td.left:last-child {{ min-width: 10.5em; }}
 td bdi, th bdi {{ white-space: nowrap; }}
 td bdi.long, th bdi.long {{ display: inline-block; width: 16rem; white-space: normal; overflow-wrap: anywhere; }}
 .kept {{ white-space: nowrap; }}
@@ -63,9 +66,16 @@ tr.close .words {{ color: {COLOURS["C"]}; font-weight: 600; }}
   .scroll, .diagram {{ overflow: visible; border: 0; }}
   .diagram > svg {{ min-width: 0; max-width: min(100%, var(--wide)); max-height: 210mm; break-inside: avoid; }}
   .sheet {{ break-before: page; }}
-  .sheet .diagram > svg {{ max-height: 252mm; }}
+  .sheet .diagram > svg, .part > svg {{ max-height: 245mm; }}
+  .large .diagram {{ max-height: none; }}
+  .large .diagram > svg {{ max-height: 165mm; }}
+  .part {{ display: block; break-before: page; }}
+  .part > p {{ margin: 0 0 4mm; }}
+  .part > svg {{ display: block; width: 100%; height: auto; }}
   table {{ font-size: 8.5pt; line-height: 1.3; }}
   caption {{ break-after: avoid; }}
+  .short {{ break-inside: avoid; }}
+  tbody tr:first-child {{ break-before: avoid; }}
   thead {{ display: table-header-group; }}
   tr {{ break-inside: avoid; }}
   th, td {{ padding: 2pt 5pt; }}
