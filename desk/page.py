@@ -3,6 +3,7 @@
 The same file gives the same bytes: no date stands on it. The figures are those of the table; no current is calculated here.
 """
 import hashlib
+import re
 
 from desk import diagram, drivers, oneline, ordering
 from desk.drawing import drawn_buses, title_of
@@ -61,13 +62,18 @@ def kind_of(letter):
     return oneline.VERDICT_WORDS[letter]
 
 
+def whole_figures(words):
+    """Words in which no line ends between a figure and its unit."""
+    return re.sub(r"(\d) (k?A)\b", "\\1\u00a0\\2", words)
+
+
 def to_heed(buses, units):
     """The buses that are over or close, the worst first."""
     found = [bus for bus in worst_first(buses) if bus.letter != "W"]
-    told = [element("li", badge(bus.letter), element("bdi", capital(called(bus))), f": {verdict_words(bus, units)}")
+    told = [element("li", badge(bus.letter), element("bdi", capital(called(bus))), f": {whole_figures(verdict_words(bus, units))}")
             for bus in found[:LISTED]]
-    more = len(found) - len(told)
-    return element("ul", *told, *[element("li", f"and {more} more in the table below")] * bool(more)) if found else Markup()
+    more = [element("li", f"and {len(found) - LISTED} more in the table below")] if len(found) > LISTED else []
+    return element("ul", *told, *more, class_="heed") if found else Markup()
 
 
 def verdict_part(outcome):
@@ -115,7 +121,7 @@ def named(name):
 def with_marks(lines, buses):
     """The lines of the table of buses with the mark of each verdict before the number, and names and words as such."""
     headings, *body = marked_names(lines)
-    return [headings, *[[joined([badge(bus.letter), line[0]]), *line[1:-1], element("span", line[-1], class_="words")]
+    return [headings, *[[joined([badge(bus.letter), line[0]]), *line[1:-1], element("span", whole_figures(line[-1]), class_="words")]
                         for line, bus in zip(body, buses)]]
 
 

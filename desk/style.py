@@ -12,6 +12,8 @@ h1 {{ margin: 0; font-size: 1.75rem; line-height: 1.25; font-weight: 600; }}
 h2 {{ margin: 2.5rem 0 .75rem; padding-bottom: .3rem; border-bottom: 1px solid {RULE}; font-size: 1.2rem; line-height: 1.3; font-weight: 600; }}
 p, ul, dl {{ margin: .5rem 0; max-width: 46rem; }}
 ul {{ padding-left: 1.25rem; }}
+ul.heed {{ padding: 0; list-style: none; max-width: none; }}
+ul.heed li {{ margin: .15rem 0; padding-left: 1.5em; text-indent: -1.5em; }}
 .kind, .note, footer {{ color: {MUTED}; }}
 .note, footer, dl {{ font-size: .875rem; }}
 footer {{ margin-top: 2.5rem; padding-top: .75rem; border-top: 1px solid {RULE}; }}
