@@ -1,7 +1,7 @@
 """What drives the verdict of each bus: both ratings against the machines alone and against machines and converters.
 
 What the program printed is added and subtracted here. The machines' figures are those of the same network without any converter,
-which is proved; so "over by the machines alone" means that the bus would be over without them.
+which is proved; so "over by machines alone" means that the bus would be over without them.
 """
 from typing import NamedTuple
 
@@ -15,11 +15,11 @@ HEADINGS = ("bus", "rating", "machines\nalone", "margin", "with\nconverters", "m
 # By the verdict on the machines alone and the verdict with the converters, which add to a current and take nothing from it.
 WORDS = {
     ("W", "W"): "within",
-    ("W", "C"): "close only with the converters",
-    ("C", "C"): "close by the machines alone",
-    ("W", "O"): "over only with the converters",
-    ("C", "O"): "over with the converters, close without",
-    ("O", "O"): "over by the machines alone",
+    ("W", "C"): "close only with converters",
+    ("C", "C"): "close by machines alone",
+    ("W", "O"): "over only with converters",
+    ("C", "O"): "over with converters, close without",
+    ("O", "O"): "over by machines alone",
 }
 NOTE = """\
 The margin is what is left of the rating, by the upper bound of the current; with a minus sign it is what is above the rating, by
