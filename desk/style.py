@@ -9,7 +9,8 @@ body {{ margin: 0 auto; padding: 2rem 2rem 3rem; max-width: 78rem; background: {
   font: 1rem/1.5 system-ui, -apple-system, "Segoe UI", Roboto, "Liberation Sans", "DejaVu Sans", Arial, sans-serif;
   font-variant-numeric: tabular-nums; overflow-wrap: anywhere; }}
 h1 {{ margin: 0; font-size: 1.75rem; line-height: 1.25; font-weight: 600; }}
-h2 {{ margin: 2.5rem 0 .75rem; padding-bottom: .3rem; border-bottom: 1px solid {RULE}; font-size: 1.2rem; line-height: 1.3; font-weight: 600; }}
+h2 {{ margin: 2.5rem 0 .75rem; padding-bottom: .3rem; border-bottom: 1px solid {RULE}; font-size: 1.2rem; line-height: 1.3;
+  font-weight: 600; }}
 p, ul, dl {{ margin: .5rem 0; max-width: 46rem; }}
 ul {{ padding-left: 1.25rem; }}
 ul.heed {{ padding: 0; list-style: none; max-width: none; }}
@@ -17,14 +18,15 @@ ul.heed li {{ margin: .15rem 0; padding-left: 1.5em; text-indent: -1.5em; }}
 .kind, .note, footer {{ color: {MUTED}; }}
 .note, footer, dl {{ font-size: .875rem; }}
 footer {{ margin-top: 2.5rem; padding-top: .75rem; border-top: 1px solid {RULE}; }}
-.whole {{ margin: 1.25rem 0 .5rem; padding: .5rem .9rem; border-left: .35rem solid {COLOURS["W"]}; font-size: 1.15rem; font-weight: 600; max-width: none; }}
+.whole {{ margin: 1.25rem 0 .5rem; padding: .5rem .9rem; border-left: .35rem solid {COLOURS["W"]}; font-size: 1.15rem;
+  font-weight: 600; max-width: none; }}
 .whole.over {{ border-color: {COLOURS["O"]}; background: {TINTS["O"]}; }}
 .whole.close {{ border-left-style: dashed; border-color: {COLOURS["C"]}; background: {TINTS["C"]}; }}
 dl {{ display: grid; grid-template-columns: max-content 1fr; gap: .35rem 1rem; }}
 dt {{ font-weight: 600; }}
 dd {{ margin: 0; }}
-pre {{ margin: .75rem 0; padding: .75rem .9rem; border: 1px solid {RULE}; overflow-x: auto; overflow-wrap: normal; font: .875rem/1.4 ui-monospace,
-  "Liberation Mono", "DejaVu Sans Mono", Consolas, monospace; }}
+pre {{ margin: .75rem 0; padding: .75rem .9rem; border: 1px solid {RULE}; overflow-x: auto; overflow-wrap: normal;
+  font: .875rem/1.4 ui-monospace, "Liberation Mono", "DejaVu Sans Mono", Consolas, monospace; }}
 .scroll {{ margin: .75rem 0 1.5rem; overflow-x: auto; }}
 .diagram {{ margin: .75rem 0; overflow: auto; border: 1px solid {RULE}; }}
 .large .diagram {{ max-height: 90vh; }}
@@ -81,6 +83,7 @@ tr.close .words {{ color: {COLOURS["C"]}; font-weight: 600; }}
   thead {{ display: table-header-group; }}
   tr {{ break-inside: avoid; }}
   th, td {{ padding: 2pt 5pt; }}
+  td bdi.long, th bdi.long {{ width: 10rem; }}
   tbody th[scope="row"] {{ position: static; }}
   pre {{ white-space: pre-wrap; font-size: 8.5pt; }}
 }}
