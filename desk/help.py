@@ -1,13 +1,12 @@
 """What `board` says of itself."""
 
-USAGE = "usage: board FILE, or board --breaking MS FILE, or board --fix | --toml | --rows | --write | --svg IN OUT   (board --help says more)"
+USAGE = "usage: board FILE, or board --breaking MS FILE, or board --fix | --toml | --rows | --write | --svg IN OUT (board --help says more)"
 HELP = """\
 name
     board - short-circuit currents of a study, as a table for people
 
 usage
-    board [--exact] FILE
-    board --breaking MS [--exact] FILE
+    board [--breaking MS] [--units] [--why] [--order] [--confirm] [--exact] FILE
     board --fix IN OUT [--force]
     board --toml IN [OUT] [--force]
     board --rows [--exact] IN [OUT] [--force]
@@ -44,6 +43,24 @@ options
         many generators these are and what they come to at most. Where that would be one line alone, it is listed instead.
         Ib contains besides the feeder and the motors with μ = 1 and the converters in full; of these there are no bounds.
         The figures come from the proved program target/bin/console, as with --write.
+    --units
+        Everything in kV and kA in place of volts and amperes, with all digits, and a column of the short-circuit power S″k in
+        MVA: √3 times the nominal voltage times the initial current of both parts, of the lower bound rounded down and of the
+        upper bound rounded up to 0.1 MVA.
+    --why
+        Adds a table of what drives the verdicts: each bus's two ratings against the machines alone and against machines and
+        converters, with the margin of each, below 0 where it is over; and in words whether the machines alone put the bus
+        over, or only the converters, which are added up plainly.
+    --order
+        Adds a table of suggestions: for each bus the smallest rating of the series that switchgear is made in (1, 1.25, 1.6,
+        2, 2.5, 3.15, 4, 5, 6.3, 8, 10 .. 100 kA) that bears the upper bound of the initial current and the peak, with the
+        margin of each and which of the two decides. The peak rating goes by IEC 62271-1 above 1,000 V, 2.5 times the rating,
+        and by IEC 61439-1 up to it, 1.5 to 2.2 times.
+    --confirm
+        Has a second program, the exact fractions of tests/judge, read the rows, work out every current anew and check what
+        the proved programs gave: all bounds and peaks, with --breaking also Ib and each share, and the verdicts. It says how
+        many figures it confirmed. A difference is an error, with the bus, the figure and the exact value, and no table is
+        printed. It takes a moment, with the largest studies two or three seconds.
     --fix IN OUT
         Mends how rows are put down and writes the result to OUT; IN stays as it is. Mended is what is certain: line
         ends become CRLF; a byte order mark goes; UTF-16 becomes plain text; blank rows at the end go; semicolons become
@@ -77,13 +94,15 @@ options
 exit status
     0   the study was accepted; with --fix, the result was
     1   it was refused, or the plan has mistakes
-    2   the command could not be carried out; a sentence on standard error says why
+    2   the command could not be carried out, or --confirm found a difference; standard error says why
 
 examples
     ./board examples/town.csv
     ./board examples/town.toml
     ./board - < examples/substation.csv
     ./board --breaking 100 examples/ieee33.csv
+    ./board --units --why examples/town.toml
+    ./board --order --confirm examples/substation.csv
     ./board --toml examples/town.csv plan.toml && ./board --exact plan.toml
     ./board --rows examples/from-data-sheets.toml | ./board -
     ./board --write examples/substation.csv tidy.csv && ./board tidy.csv
