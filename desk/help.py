@@ -1,17 +1,20 @@
 """What `board` says of itself."""
 
-USAGE = "usage: board FILE, or board --breaking MS FILE, or board --fix | --toml | --rows | --write | --svg IN OUT (board --help says more)"
+USAGE = "usage: board FILE .., or board --html | --svg | --json | --csv | --fix | --toml | --rows | --write IN OUT (board --help says more)"
 HELP = """\
 name
     board - short-circuit currents of a study, as a table for people
 
 usage
-    board [--breaking MS] [--units] [--why] [--order] [--confirm] [--exact] FILE
+    board [--breaking MS] [--units] [--why] [--order] [--confirm] [--exact] [--strict] FILE
+    board [--exact] [--strict] FILE FILE ..
+    board --html [--breaking MS] [--units] [--confirm] [--exact] [--strict] IN [OUT] [--force]
+    board --json | --csv [--breaking MS] [--confirm] [--exact] [--strict] IN [OUT] [--force]
     board --fix IN OUT [--force]
     board --toml IN [OUT] [--force]
     board --rows [--exact] IN [OUT] [--force]
     board --write [--exact] IN [OUT] [--force]
-    board --svg [--exact] IN [OUT] [--force]
+    board --svg [--exact] [--strict] IN [OUT] [--force]
     board --help | --version
 
 what it prints
@@ -31,6 +34,9 @@ what it prints
     The mistakes of a plan are listed, each with its line. A number of a plan that is no whole number of the row's units
     (a length of 2.40045 km, where a row has metres) is rounded to the nearest; below the table stands each such place
     with the difference.
+
+    Several files are answered with a line for each: how many buses it has, how many of them are within, close and over,
+    and the worst bus, which is the most loaded of those with the worst verdict; or why the file is refused or was not read.
 
 options
     --exact
@@ -81,9 +87,28 @@ options
     --svg IN [OUT]
         Draws rows or a plan as a one-line diagram, in the same way: an SVG file with the upper bound of the initial
         current, the peak and the verdict of each bus, by colour, letter and shape. A browser opens and prints it.
-        With --toml, --rows, --write and --svg, roundings and refusals go to standard error.
+    --html IN [OUT]
+        Writes rows or a plan as a page to hand on, in the same way: one file with no script and nothing to fetch, which any
+        browser shows and prints. It has the verdict of the whole, the diagram, the table, with --breaking the shares, what
+        drives the verdicts, what to order, the inputs in the units of data sheets, and what the figures mean. On paper a
+        large diagram is cut into sheets that can be read. A refused study gets a page that explains the refusal. The page
+        has no date: the same file gives the same bytes.
+    --json IN [OUT]
+        Writes one JSON object, in the same way: accepted, true or false; study, with tolerance_percent, buses, sources and
+        roundings, branches and sources under the keys of a plan; figures, for each bus in whole amperes, with the verdict, its
+        words, what drives it, the margins as --why has them (null where the rating lies between the bounds) and the rating
+        that --order suggests; with --breaking also breaking, with the shares of generators by their place among the sources,
+        and with --confirm confirmation. A refused study has refusal instead: words, and ground, row, fields, reason and
+        sentences, or the mistakes of a plan, each with its line.
+    --csv IN [OUT]
+        Writes the same figures as lines of CSV, a line of headings and one for each bus, in the same way: UTF-8, commas, CRLF.
+        An apostrophe stands before a name that begins with = + - @, which a spreadsheet would calculate with, or with an
+        apostrophe. A refused study has no lines, and nothing is written.
+        With all that write a file, roundings, refusals and what --confirm says go to standard error.
+    --strict
+        The exit status is 3 where a study is accepted and some bus is over or close.
     --force
-        With --fix, --toml, --rows, --write and --svg: OUT is overwritten where it is there already. It keeps its permissions,
+        With all that write a file: OUT is overwritten where it is there already. It keeps its permissions,
         and stays as it is until the new text is whole, so that a full disk or Ctrl-C does not cost it; only where its folder
         lets no other file take its place is it written into. IN is never changed.
     --help, --version
@@ -95,6 +120,8 @@ exit status
     0   the study was accepted; with --fix, the result was
     1   it was refused, or the plan has mistakes
     2   the command could not be carried out, or --confirm found a difference; standard error says why
+    3   with --strict alone: the study was accepted, and some bus is over or close
+    Of several files the worst counts: 2, a file that could not be read, before 1, and 1 before 3.
 
 examples
     ./board examples/town.csv
@@ -107,5 +134,9 @@ examples
     ./board --rows examples/from-data-sheets.toml | ./board -
     ./board --write examples/substation.csv tidy.csv && ./board tidy.csv
     ./board --svg examples/town.toml town.svg
+    ./board --html --breaking 100 examples/town.toml town.html
+    ./board --json examples/town.toml town.json
+    ./board --csv examples/town.toml table.csv
+    ./board --strict examples/ieee33.csv examples/substation-grid.csv
     tr -d '\\r' < examples/town.csv > unix.csv; ./board --fix unix.csv mended.csv && ./board mended.csv
 """
