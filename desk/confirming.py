@@ -71,4 +71,5 @@ def sentence(got, delay=""):
     verdicts = "1 verdict" if got.verdicts == 1 else f"{got.verdicts:,} verdicts"
     buses = "1 bus" if got.buses == 1 else f"all {got.buses:,} buses"
     head = f"{got.figures:,} figures confirmed in exact fractions, and {verdicts}, of {buses}."
-    return textwrap.fill(" ".join([head, WHAT_IT_DID, WHAT_IT_DID_OF_BREAKING if delay else "", WHAT_IT_LEFT]), WIDTH)
+    told = [head, WHAT_IT_DID, WHAT_IT_LEFT] if not delay else [head, WHAT_IT_DID, WHAT_IT_DID_OF_BREAKING, WHAT_IT_LEFT]
+    return textwrap.fill(" ".join(told), WIDTH)
