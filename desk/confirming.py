@@ -6,6 +6,7 @@ where it is asked for.
 import importlib
 import sys
 import textwrap
+from itertools import chain
 
 from desk.program import ROOT
 from desk.trouble import Trouble, reason
@@ -39,11 +40,12 @@ def confirmed(text, buses, found=(), delay=""):
     """How many buses, figures and verdicts were confirmed, from an accepted study's text, the Figures of its buses and, with a delay,
     the Breaking of each. A difference is a Trouble."""
     judge = judging()
-    printed = [judge.Printed(bus.volts, bus.rating, bus.peak_rating,
+    printed = [judge.Printed(bus.number, bus.volts, bus.rating, bus.peak_rating,
                              (bus.lower, bus.upper, bus.converters_lower, bus.converters_upper, bus.machines_peak, bus.converters_peak),
                              bus.letter) for bus in buses]
     if delay:
-        printed = [one._replace(breaking=breaking.figure, table=sum(breaking.bounds, ())) for one, breaking in zip(printed, found)]
+        printed = [one._replace(breaking=breaking.figure, table=tuple(chain.from_iterable(breaking.bounds)))
+                   for one, breaking in zip(printed, found)]
     got = judge.confirmed(text, printed, int(delay or 0))
     if got.differences:
         raise Trouble(differing(got.differences, buses))
@@ -71,4 +73,5 @@ def sentence(got, delay=""):
     verdicts = "1 verdict" if got.verdicts == 1 else f"{got.verdicts:,} verdicts"
     buses = "1 bus" if got.buses == 1 else f"all {got.buses:,} buses"
     head = f"{got.figures:,} figures confirmed in exact fractions, and {verdicts}, of {buses}."
-    return textwrap.fill(" ".join([head, WHAT_IT_DID, WHAT_IT_DID_OF_BREAKING if delay else "", WHAT_IT_LEFT]), WIDTH)
+    told = [head, WHAT_IT_DID, WHAT_IT_LEFT] if not delay else [head, WHAT_IT_DID, WHAT_IT_DID_OF_BREAKING, WHAT_IT_LEFT]
+    return textwrap.fill(" ".join(told), WIDTH)

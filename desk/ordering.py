@@ -15,6 +15,7 @@ LOW_VOLTAGE_FACTORS = ((5_000, 15), (10_000, 17), (20_000, 20), (50_000, 21), (S
 TITLE = "What to order: a suggestion, not a verdict"
 HEADINGS = ("bus", "{}", "initial\ncurrent", "suggested\nrating", "margin", "peak", "peak\nrating", "margin", "decided by")
 NONE = "none up to 100 kA bears it"
+LEAST = "the series has no smaller one"
 NOTE = """\
 Suggested is the smallest rating of the series 1, 1.25, 1.6, 2, 2.5, 3.15, 4, 5, 6.3, 8, 10 .. 100 kA that bears the upper bound of
 the initial current and whose peak rating bears the peak, both with the converters. Above 1,000 V the peak rating is 2.5 times the
@@ -61,8 +62,14 @@ def suggestion(bus):
     place = max(by_current, by_peak)
     if place == len(ratings):
         return Suggestion(bus, None, NONE)
-    decided_by = "both" if by_current == by_peak else "the initial current" if by_peak < place else "the peak"
-    return Suggestion(bus, ratings[place], decided_by)
+    return Suggestion(bus, ratings[place], deciding(by_current, by_peak))
+
+
+def deciding(by_current, by_peak):
+    """Which of the two asks for the greater rating, from the places of what each would do with alone."""
+    if by_current == by_peak:
+        return "both" if by_peak else LEAST
+    return "the initial current" if by_current > by_peak else "the peak"
 
 
 def suggestions_of(buses):

@@ -18,14 +18,22 @@ class Answer(NamedTuple):
     heed: bool = False  # some bus is over or close, which --strict makes a status of its own
 
 
-def fitted(words, stream):
-    """Words as a stream can show them: what its encoding has not comes by its stand-in, or else as \\x codes."""
-    encoding = getattr(stream, "encoding", None) or "ascii"
+def takes(encoding, words):
     try:
         words.encode(encoding)
-        return words
+        return True
     except UnicodeEncodeError:
-        return words.translate(str.maketrans(STAND_INS)).encode(encoding, "backslashreplace").decode(encoding)
+        return False
+
+
+def fitted(words, stream):
+    """Words as a stream can show them: what its encoding has not comes by its stand-in, or else as \\x codes. What it has stays, so
+    that names are as wide in a text as they are alone."""
+    encoding = getattr(stream, "encoding", None) or "ascii"
+    if takes(encoding, words):
+        return words
+    stand_ins = {letter: name for letter, name in STAND_INS.items() if not takes(encoding, letter)}
+    return words.translate(str.maketrans(stand_ins)).encode(encoding, "backslashreplace").decode(encoding)
 
 
 def silence(stream):

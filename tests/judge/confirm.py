@@ -15,9 +15,10 @@ FIGURES = len(Amperes._fields)
 
 
 class Printed(NamedTuple):
-    """What was printed of a bus: volts, ratings, six amperes and the letter; the breaking
-    current and two numbers a source where they were asked for."""
+    """What was printed of a bus: number, volts, ratings, six amperes and the letter; the
+    breaking current and two numbers a source where they were asked for."""
 
+    number: int
     volts: int
     rating: int
     peak_rating: int
@@ -46,7 +47,7 @@ def confirmed(text, printed, delay=0):
     bench, network = Bench(), study.network()
     differences = []
     for bus, (judge, one) in enumerate(zip(bench.judges(network), printed)):
-        found = bus_reasons(judge, one, study.buses[bus])
+        found = bus_reasons(judge, one, bus, study.buses[bus])
         if delay:
             found += breaking_reasons(BreakingJudge(bench, network, bus), one, delay)
         differences += [(bus, words) for words in found]
@@ -62,12 +63,12 @@ def generators(study):
     return sum(source.kind == GENERATOR for source in study.sources)
 
 
-def bus_reasons(judge, one, record):
+def bus_reasons(judge, one, bus, record):
     """Why the figures of a bus are not right, with the exact ones; empty when they are."""
-    own = {"volts": (one.volts, record.volts), "rating": (one.rating, record.rating)}
-    own["peak rating"] = one.peak_rating, record.peak_rating
-    differ = [(name, *pair) for name, pair in own.items() if pair[0] != pair[1]]
-    found = [f"{name} {given} where the row has {due}" for name, given, due in differ]
+    names = "number", "volts", "rating", "peak rating"
+    due = bus, record.volts, record.rating, record.peak_rating
+    triples = [triple for triple in zip(names, one, due) if triple[1] != triple[2]]
+    found = [f"{name} {given} where {own} is due" for name, given, own in triples]
     amperes = Amperes(*one.amperes)
     wrong = judge.reasons(amperes) + judge.near_reasons(amperes)
     found += wrong + ([exact_words(judge)] if wrong else [])
