@@ -18,6 +18,7 @@ from .oneline import CONVERTER, FEEDER, GENERATOR, KIND_WORDS, MOTOR, VERDICT_WO
 INK, MUTED, PAPER = "#1c1c1c", "#4a4a4a", "#ffffff"
 COLOURS = {"W": "#00796b", "O": "#b00020", "C": "#8a5a00", "": INK}
 TINTS = {"O": "#fdecee", "C": "#fff6e0"}
+APART = {"unicode_bidi": "isolate"}  # a name that reads from right to left turns nothing else around
 FONTS = "Arial, Helvetica, 'Liberation Sans', 'DejaVu Sans', sans-serif"
 
 
@@ -137,7 +138,7 @@ def badge(verdict, x, y):
 def text_line(runs, x, y, colours):
     """A line of text; y is its baseline."""
     pieces = [mark("tspan", escape(run.text), font_size=SIZES[run.style], font_weight="bold" if run.bold else "normal",
-                   fill=colours[run.tone]) for run in runs]
+                   fill=colours[run.tone], **({} if run.text.isascii() else APART)) for run in runs]
     return mark("text", "".join(pieces), x=x, y=y)
 
 

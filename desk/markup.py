@@ -4,6 +4,7 @@ from xml.sax.saxutils import escape
 from desk.lettering import harmless
 
 VOID = ("meta",)  # elements that hold nothing and have no end
+KEPT = 9  # characters of a heading that stays on one line
 SHORT = 20  # lines of a table that is not cut from sheet to sheet
 
 
@@ -32,6 +33,12 @@ def cell(name, content, left, /, **attributes):
     return element(name, content, class_="left" if left else "", **attributes)
 
 
+def heading(words, left):
+    """The heading of a column; a short one stays on one line."""
+    kinds = ["left"] * left + ["kept"] * (len(words) <= KEPT)
+    return element("th", words, class_=" ".join(kinds), scope="col")
+
+
 def row(line, left, kind=""):
     """A line of cells; the first is its heading."""
     first, *rest = line
@@ -43,8 +50,8 @@ def table(caption, lines, left, kinds=()):
     """A table in a box of its own, which scrolls where it is too wide; the first line has the headings. `left` are the headings of what
     stands to the left, names and words; `kinds` are the classes of the rows."""
     headings, *body = lines
-    sides = [heading in left for heading in headings]
-    head = element("tr", *[cell("th", heading, side, scope="col") for heading, side in zip(headings, sides)])
+    sides = [words in left for words in headings]
+    head = element("tr", *map(heading, headings, sides))
     rows = [row(line, sides, kind) for line, kind in zip(body, kinds or [""] * len(body))]
     whole = element("table", element("caption", caption), "\n", element("thead", head), "\n",
                     element("tbody", "\n", joined(rows, "\n"), "\n"))

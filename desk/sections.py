@@ -21,7 +21,8 @@ TALL = 1060  # px of a drawing that still fits below the heading of the first sh
 LONG = 28  # characters of a name that stays on one line
 DRAWING = "drawing"
 BADGE = 18
-NAMES = ("name", "from", "to", "at bus", "generator")  # headings of what the file names
+NUMBERED = ("from", "to", "at bus")  # headings of buses by number and name
+NAMES = ("name", "generator", *NUMBERED)  # of all that the file names
 
 
 # ---- the study as a whole
@@ -83,18 +84,24 @@ def window_part(numbered, count):
 # ---- the tables
 
 def is_wide(lines):
-    """Whether a table asks for a sheet that lies across."""
-    return max(map(len, columns(lines).split("\n"))) > WIDE
+    """Whether a table asks for a sheet that lies across; names and words that are long take several lines."""
+    short = [lines[0], *[[cell[:LONG] for cell in line] for line in lines[1:]]]
+    return max(map(len, columns(short).split("\n"))) > WIDE
 
 
-def named(name):
-    """A name from the file; what it reads from right to left turns nothing else around."""
-    return element("bdi", name, class_="long" if len(name) > LONG else "")
+def named(heading, cell):
+    """A cell with a name from the file. A name that reads from right to left turns nothing around it: not the number of a bus before
+    it, nor what a generator is called besides."""
+    kind = "long" if len(cell) > LONG else ""
+    if heading in NUMBERED:
+        number, blank, name = cell.partition(" ")
+        return joined([number, blank, element("bdi", name, class_=kind)]) if name else cell
+    return element("bdi", cell, class_=kind, dir="ltr" if heading == "generator" else "")
 
 
 def marked_names(lines):
     """Lines whose cells below the headings of names are such."""
-    return [lines[0], *[[named(cell) if heading in NAMES else cell for heading, cell in zip(lines[0], line)] for line in lines[1:]]]
+    return [lines[0], *[[named(heading, cell) if heading in NAMES else cell for heading, cell in zip(lines[0], line)] for line in lines[1:]]]
 
 
 def with_marks(lines, buses):

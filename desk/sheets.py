@@ -1,15 +1,16 @@
 """A large drawing in parts for paper: windows onto it, a sheet for each, at a scale at which its lettering can be read.
 
-The cuts go where they meet the fewest labels and symbols; one that is met all the same stands whole on both sheets. Bars and wires go
-on from sheet to sheet.
+The cuts go where they meet the fewest labels and symbols; one that is met all the same stands whole on the sheet that it begins on.
+Bars and wires go on from sheet to sheet.
 """
 from math import ceil
 
 from desk.layout import Box
 
-LEAST = 0.7  # the scale below which a drawing is cut: the smallest lettering is then 5 points
-ROOM = (703, 900)  # px: an upright sheet of A4 within its margins, below a heading
-STRAY = 0.15  # how far a cut may lie from where equal parts would have it, in parts of their size
+LEAST = 0.66  # the scale below which a drawing is cut: the smallest lettering is then 5 points
+FLOOR = 0.58  # what a label at a cut may bring it down to
+ROOM = (703, 920)  # px: an upright sheet of A4 within its margins, below a heading
+STRAY = 0.12  # how far a cut may lie from where equal parts would have it, in parts of their size
 STEP = 2  # px between the places that are tried
 LONG = ("bar", "wire", "source wire")  # what may be cut
 
@@ -25,12 +26,17 @@ def cut(spans, due, stray):
     return min(places, key=lambda at: (len(met(spans, at)), abs(at - due)))
 
 
-def parts(spans, size, room):
-    """The parts of a length, each with its beginning and end, such as fit a room at the least scale."""
-    count = ceil(size * LEAST / room)
+def cut_in(count, spans, size):
+    """A length in so many parts, each with its beginning and its end; what a cut meets belongs to the part before it."""
     cuts = [cut(spans, size * k / count, STRAY * size / count) for k in range(1, count)]
-    return [(min([begin, *(low for low, _ in met(spans, begin))]), max([end, *(high for _, high in met(spans, end))]))
-            for begin, end in zip([0, *cuts], [*cuts, size])]
+    return [(begin, max([end, *(high for _, high in met(spans, end))])) for begin, end in zip([0, *cuts], [*cuts, size])]
+
+
+def parts(spans, size, room):
+    """The parts of a length: as many as fit a room at the least scale, and one or two more where labels make a part much longer."""
+    fewest = ceil(size * LEAST / room)
+    tried = [cut_in(count, spans, size) for count in (fewest, fewest + 1, fewest + 2)]
+    return next((one for one in tried if max(end - begin for begin, end in one) * FLOOR <= room), tried[-1])
 
 
 def is_filled(window, boxes):

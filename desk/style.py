@@ -39,10 +39,10 @@ thead th {{ vertical-align: bottom; border-bottom: 1.5px solid {INK}; font-weigh
 tbody th {{ font-weight: 400; }}
 tbody th[scope="row"] {{ position: sticky; left: 0; background: {PAPER}; }}
 th.left, td.left {{ text-align: left; white-space: normal; }}
-td.left:last-child {{ min-width: 10.5em; }}
+td.left:last-child {{ min-width: 13em; }}
 td bdi, th bdi {{ white-space: nowrap; }}
-td bdi.long, th bdi.long {{ display: inline-block; width: 16rem; white-space: normal; overflow-wrap: anywhere; }}
-.kept {{ white-space: nowrap; }}
+td bdi.long, th bdi.long {{ display: inline-block; width: 14rem; white-space: normal; overflow-wrap: anywhere; }}
+.kept, thead th.kept {{ white-space: nowrap; }}
 tr.over td, tr.over th {{ background: {TINTS["O"]}; }}
 tr.close td, tr.close th {{ background: {TINTS["C"]}; }}
 tr.over .words {{ color: {COLOURS["O"]}; font-weight: 600; }}
