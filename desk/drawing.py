@@ -7,6 +7,7 @@ from desk.records import rows_of
 from desk.rewriting import with_accepted, written
 from desk.studies import rounded
 from desk.table import verdict_words
+from desk.units import WHOLE
 from desk.verdicts import is_to_heed
 
 
@@ -15,10 +16,10 @@ def title_of(source):
     return "Study" if source == "-" else os.path.splitext(os.path.basename(source))[0]
 
 
-def drawn_buses(study, answers, buses):
+def drawn_buses(study, answers, buses, units=WHOLE):
     """What is drawn of an accepted study; the words of a verdict are those of the table."""
     rows = [row.decode("ascii").split(",") for row in rows_of(study.rows)]
-    words = {bus.number: verdict_words(bus) for bus in buses}
+    words = {bus.number: verdict_words(bus, units) for bus in buses}
     return oneline.buses_of(rows, answers, dict(enumerate(study.names)), words)
 
 

@@ -18,7 +18,7 @@ from desk.verdicts import called, whole, worst_first
 LISTED = 8  # buses to heed that are named below the verdict of the whole
 WIDE = 118  # characters in a line of a table that an upright sheet still has room for
 TALL = 1060  # px of a drawing that still fits below the heading of the first sheet; a taller one gets a sheet of its own
-LONG = 28  # characters of a name that stays on one line
+LONG = 32  # characters of a name that stays on one line
 DRAWING = "drawing"
 BADGE = 18
 NUMBERED = ("from", "to", "at bus")  # headings of buses by number and name
@@ -61,7 +61,7 @@ def verdict_part(outcome):
 
 def diagram_part(outcome, title):
     """The drawing of --svg without its title, which stands on the page; as wide as the page has room for."""
-    buses = drawn_buses(outcome.study, outcome.answers, outcome.buses)
+    buses = drawn_buses(outcome.study, outcome.answers, outcome.buses, outcome.units)
     drawing = layout(buses, "")
     cut = windows(drawing)
     drawn = Markup(diagram.drawn(drawing, buses, f"{title}: one-line diagram", DRAWING if cut else ""))
@@ -94,8 +94,8 @@ def named(heading, cell):
     it, nor what a generator is called besides."""
     kind = "long" if len(cell) > LONG else ""
     if heading in NUMBERED:
-        number, blank, name = cell.partition(" ")
-        return joined([number, blank, element("bdi", name, class_=kind)]) if name else cell
+        number, _, name = cell.partition(" ")
+        return joined([number, "\u00a0", element("bdi", name, class_=kind)]) if name else cell
     return element("bdi", cell, class_=kind, dir="ltr" if heading == "generator" else "")
 
 
