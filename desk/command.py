@@ -64,7 +64,13 @@ def form_of(options, names):
 
 
 def carried_out(words):
+    """What a command gives; with --strict, status 3 where all went well and some bus is over or close."""
     options, names = parsed(words)
+    answer = answered(options, names)
+    return answer._replace(status=3) if "--strict" in options and answer.status == 0 and answer.heed else answer
+
+
+def answered(options, names):
     form, force, exact = form_of(options, names), "--force" in options, "--exact" in options
     if form == "--help":
         return Answer(0, HELP.rstrip("\n"))
@@ -92,11 +98,6 @@ def asked(options):
     return Options("--exact" in options, options.get("--breaking", ""), units, why, order, confirm)
 
 
-def status_of(answer, strict):
-    """The exit status: with --strict, 3 where all went well and some bus is over or close."""
-    return 3 if strict and answer.status == 0 and answer.heed else answer.status
-
-
 def main(words):
     try:
         answer = carried_out(words)
@@ -104,7 +105,7 @@ def main(words):
             deliver(answer.out)
         if answer.notes:
             complain(answer.notes)
-        return status_of(answer, "--strict" in parsed(words)[0])
+        return answer.status
     except BrokenPipeError:
         return 2
     except Usage:
