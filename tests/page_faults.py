@@ -196,11 +196,11 @@ def count_faults(root, answers):
 
 
 def parsed(text):
-    """The page as XML, or what is wrong with that."""
+    """The page as XML, and what is wrong with that; where it is none, an empty page."""
     try:
         return xml.fromstring(text.removeprefix("<!DOCTYPE html>\n")), []
     except xml.ParseError as error:
-        return None, [f"no XML: {error}"]
+        return xml.fromstring("<html><body/></html>"), [f"no XML: {error}"]
 
 
 def form_faults(text):
@@ -214,8 +214,8 @@ def form_faults(text):
 def faults_of(text, rows, answers, names=()):
     """What is wrong with the page of an accepted study: its rows and the program's answers, each row as its fields."""
     wrong = form_faults(text)
-    root, _ = parsed(text)
-    if root is None:
+    root, broken = parsed(text)
+    if broken:
         return wrong
     tables = tables_of(root)
     lines = without_breaking(tables.get(("Buses", "Currents in amperes"), [[]]))
