@@ -11,7 +11,7 @@ from desk.markup import Markup, element, joined, paragraphs
 from desk.outcome import Refused
 from desk.refusals import capital
 from desk.revision import edition
-from desk.sections import buses_part, diagram_part, drivers_part, inputs_part, ordering_part, section, shares_part, verdict_part
+from desk.sections import diagram_part, inputs_part, results_part, section, verdict_part
 from desk.style import STYLE
 
 KIND = "Short-circuit currents: balanced three-phase fault, maximum case of "
@@ -39,8 +39,8 @@ That the program writes these figures and no others, and that this page shows th
 def meaning_part(confirmation):
     terms = [joined([element("dt", term), element("dd", " ".join(words.split()))]) for term, words in MEANINGS]
     told = "\n\n".join(filter(None, [PROMISE, confirmation]))
-    return section("What the figures mean and what is promised",
-                   [element("dl", *terms), element("div", paragraphs(told), class_="note")])
+    return section("What the figures mean and what is promised", element("dl", *terms),
+                   element("div", paragraphs(told), class_="note"))
 
 
 # ---- a refusal
@@ -57,8 +57,8 @@ def refused_parts(refused):
 # ---- all of it
 
 def accepted_parts(outcome, title):
-    return [verdict_part(outcome), diagram_part(outcome, title), buses_part(outcome), shares_part(outcome), drivers_part(outcome),
-            ordering_part(outcome), inputs_part(outcome), meaning_part(outcome.confirmation)]
+    return [verdict_part(outcome), diagram_part(outcome, title), results_part(outcome), inputs_part(outcome),
+            meaning_part(outcome.confirmation)]
 
 
 def footer(source, data):

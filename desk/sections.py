@@ -111,42 +111,51 @@ def with_marks(lines, buses):
                         for line, bus in zip(body, buses)]]
 
 
-def section(title, parts, across=False):
-    return element("section", element("h2", title), "\n", joined(parts, "\n"), class_="across" if across else "")
+def section(title, *parts):
+    return element("section", element("h2", title), "\n", joined(parts, "\n"))
 
 
-def buses_part(outcome):
-    units = outcome.units
-    lines = table_lines(outcome.buses, breaking_column(outcome.breakings, outcome.delay, units), units)
-    made = table(f"Currents in {units.currents}", with_marks(lines, outcome.buses), LEFT, [kind_of(bus.letter) for bus in outcome.buses])
-    notes = "\n\n".join([note(units), WHAT_IT_IS.format(outcome.delay)] if outcome.delay else [note(units)])
-    return section("Buses", [made, element("div", paragraphs(notes), class_="note")], is_wide(lines))
+def with_notes(title, made, notes):
+    """A section of a table and what is to be known of it."""
+    return section(title, made, element("div", paragraphs(notes), class_="note"))
 
 
-def further_part(title, caption, lines, notes):
-    """A table that stands behind that of the buses, and what is to be known of it."""
-    made = table(caption, marked_names(lines), LEFT)
-    return section(title, [made, element("div", paragraphs(notes), class_="note")], is_wide(lines))
+def buses_part(outcome, lines):
+    made = table(f"Currents in {outcome.units.currents}", with_marks(lines, outcome.buses), LEFT,
+                 [kind_of(bus.letter) for bus in outcome.buses])
+    what = [WHAT_IT_IS.format(outcome.delay)] if outcome.delay else []
+    return with_notes("Buses", made, "\n\n".join([note(outcome.units), *what]))
 
 
-def shares_part(outcome):
+def shares_part(outcome, lines):
     """Who contributes how much to the breaking currents; nothing where these were not asked for."""
-    study, title = outcome.study, "Shares in the breaking current"
+    if not outcome.delay:
+        return Markup()
+    title = "Shares in the breaking current"
+    if not lines:
+        return section(title, element("p", NO_GENERATOR))
+    return with_notes(title, table(f"Shares in {outcome.units.currents}", marked_names(lines), LEFT), WHAT_SHARES_ARE)
+
+
+def lines_of_shares(outcome):
+    study = outcome.study
     generators = generators_of(study.rows, study.names, study.sources)
-    if not outcome.delay or not generators:
-        return section(title, [element("p", NO_GENERATOR)]) if outcome.delay else Markup()
-    lines = share_lines(outcome.breakings, outcome.delay, generators, study.names, outcome.units)
-    return further_part(title, f"Shares in {outcome.units.currents}", lines, WHAT_SHARES_ARE)
+    return share_lines(outcome.breakings, outcome.delay, generators, study.names, outcome.units) if outcome.delay and generators else []
 
 
-def drivers_part(outcome):
-    lines = drivers.driver_lines(outcome.buses, outcome.units)
-    return further_part(drivers.TITLE, f"Currents in {outcome.units.currents}", lines, drivers.NOTE)
+def further_part(outcome, room, lines):
+    """The table of another room, which has its title and its note."""
+    return with_notes(room.TITLE, table(f"Currents in {outcome.units.currents}", marked_names(lines), LEFT), room.NOTE)
 
 
-def ordering_part(outcome):
-    lines = ordering.suggestion_lines(outcome.buses, outcome.units)
-    return further_part(ordering.TITLE, f"Currents in {outcome.units.currents}", lines, ordering.NOTE)
+def results_part(outcome):
+    """The tables of results. Where one of them asks for a sheet that lies across, all do, so that paper is turned once."""
+    buses, units = outcome.buses, outcome.units
+    lines = [table_lines(buses, breaking_column(outcome.breakings, outcome.delay, units), units), lines_of_shares(outcome),
+             drivers.driver_lines(buses, units), ordering.suggestion_lines(buses, units)]
+    parts = [buses_part(outcome, lines[0]), shares_part(outcome, lines[1]), further_part(outcome, drivers, lines[2]),
+             further_part(outcome, ordering, lines[3])]
+    return element("div", joined(parts, "\n"), class_="across" if any(map(is_wide, filter(None, lines))) else "")
 
 
 # ---- the inputs
@@ -159,4 +168,4 @@ def inputs_part(outcome):
     if study.roundings:
         told.append(element("p", "Rounded to the units of the program:"))
         told.append(element("ul", *[element("li", visible(one)) for one in study.roundings]))
-    return section("Inputs", told)
+    return section("Inputs", *told)
