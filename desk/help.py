@@ -92,7 +92,7 @@ options
         browser shows and prints. It has the verdict of the whole, the diagram, the table, with --breaking the shares, what
         drives the verdicts, what to order, the inputs in the units of data sheets, and what the figures mean. On paper a
         large diagram is cut into sheets that can be read. A refused study gets a page that explains the refusal. The page
-        has no date: the same file gives the same bytes.
+        has no date: with one edition of board, the same file gives the same bytes.
     --json IN [OUT]
         Writes one JSON object, in the same way: accepted, true or false; study, with tolerance_percent, buses, sources and
         roundings, branches and sources under the keys of a plan; figures, for each bus in whole amperes, with the verdict, its
