@@ -102,10 +102,16 @@ def label_lines(bus):
     if bus.figure:
         lines.append((Run(lettering.clean(bus.figure), "plain"),))
     if bus.verdict in ("O", "C") and bus.words:
-        lines.append((Run(lettering.clean(bus.words), "small", True, "verdict"),))
+        lines += [(Run(words, "small", True, "verdict"),) for words in folded(lettering.clean(bus.words))]
     if bus.branch is not None:
         lines.append((Run(branch_words(bus.branch), "small", False, "muted"),))
     return tuple(lines)
+
+
+def folded(words):
+    """A verdict over both ratings in two lines, so that its label is no wider than others; the blank between them is not drawn."""
+    first, joint, second = words.partition(" and ")
+    return [first, joint + second] if joint else [first]
 
 
 def source_run(group):

@@ -1,25 +1,31 @@
 """The command line: what the words mean, what is done, and how it ends."""
-import os
-import subprocess
-
 from desk.breaking import delay_of
 from desk.drawing import as_diagram
+from desk.handing import as_csv, as_json, as_page
 from desk.help import HELP, USAGE
-from desk.program import ROOT
+from desk.revision import edition
 from desk.rewriting import as_plan, as_rows, fixed, in_rows
+from desk.several import listed
 from desk.streams import Answer, complain, deliver
-from desk.studies import shown
+from desk.studies import Options, shown
 from desk.trouble import Trouble
 
+HANDING = {"--html": as_page, "--json": as_json, "--csv": as_csv}
+PRINTING = {"--exact", "--units", "--why", "--order", "--confirm", "--strict"}
+SEVERAL = {"--exact", "--strict"}
+WRITING = {"--exact", "--strict", "--force", "--breaking", "--confirm"}
 # By the option that says what is done: the options that may stand beside it, and how many names there may be.
 FORMS = {
-    "": ({"--exact"}, (1,)),
-    "--breaking": ({"--exact"}, (1,)),
+    "": (PRINTING, range(1, 100_000)),
+    "--html": (WRITING | {"--units"}, (1, 2)),
+    "--json": (WRITING, (1, 2)),
+    "--csv": (WRITING, (1, 2)),
+    "--breaking": (PRINTING, (1,)),
     "--fix": ({"--force"}, (2,)),
     "--toml": ({"--force"}, (1, 2)),
     "--rows": ({"--force", "--exact"}, (1, 2)),
     "--write": ({"--force", "--exact"}, (1, 2)),
-    "--svg": ({"--force", "--exact"}, (1, 2)),
+    "--svg": ({"--force", "--exact", "--strict"}, (1, 2)),
     "--help": (set(), (0,)),
     "--version": (set(), (0,)),
 }
@@ -50,18 +56,26 @@ def form_of(options, names):
     """The option that says what is done, where the others and the number of names go with it."""
     form = next((option for option in FORMS if option in options), "")
     beside, counts = FORMS[form]
-    if not options.keys() <= beside | {form} or len(names) not in counts:
+    if not form and len(names) > 1:
+        beside = SEVERAL
+    if not options.keys() <= beside | {form} or len(names) not in counts or not form and names.count("-") > 1:
         raise Usage()
     return form
 
 
 def carried_out(words):
+    """What a command gives; with --strict, status 3 where all went well and some bus is over or close."""
     options, names = parsed(words)
+    answer = answered(options, names)
+    return answer._replace(status=3) if "--strict" in options and answer.status == 0 and answer.heed else answer
+
+
+def answered(options, names):
     form, force, exact = form_of(options, names), "--force" in options, "--exact" in options
     if form == "--help":
         return Answer(0, HELP.rstrip("\n"))
     if form == "--version":
-        return Answer(0, f"Noldveig board, {revision()}")
+        return Answer(0, edition())
     if form == "--fix":
         return fixed(*names, force)
     source, target = (names + ["-"])[:2]
@@ -73,29 +87,25 @@ def carried_out(words):
         return in_rows(source, target, force, exact)
     if form == "--svg":
         return as_diagram(source, target, force, exact)
-    return shown(source, exact, options.get("--breaking", ""))
+    if form in HANDING:
+        return HANDING[form](source, target, force, asked(options))
+    return listed(names, exact) if len(names) > 1 else shown(source, asked(options))
 
 
-def revision():
-    """The short commit of this folder where it is a git repository of its own."""
-    try:
-        done = subprocess.run(["git", "-C", str(ROOT), "rev-parse", "--show-toplevel", "--short", "HEAD"],
-                              capture_output=True, text=True, errors="replace")
-    except OSError:
-        return "unknown revision"
-    said = done.stdout.split("\n")
-    own = done.returncode == 0 and len(said) == 3 and os.path.realpath(said[0]) == str(ROOT)
-    return f"revision {said[1]}" if own else "unknown revision"
+def asked(options):
+    """What is asked for beside the table."""
+    units, why, order, confirm = (word in options for word in ("--units", "--why", "--order", "--confirm"))
+    return Options("--exact" in options, options.get("--breaking", ""), units, why, order, confirm)
 
 
 def main(words):
     try:
-        status, out, notes = carried_out(words)
-        if out:
-            deliver(out)
-        if notes:
-            complain(notes)
-        return status
+        answer = carried_out(words)
+        if answer.out:
+            deliver(answer.out)
+        if answer.notes:
+            complain(answer.notes)
+        return answer.status
     except BrokenPipeError:
         return 2
     except Usage:

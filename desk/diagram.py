@@ -18,6 +18,7 @@ from .oneline import CONVERTER, FEEDER, GENERATOR, KIND_WORDS, MOTOR, VERDICT_WO
 INK, MUTED, PAPER = "#1c1c1c", "#4a4a4a", "#ffffff"
 COLOURS = {"W": "#00796b", "O": "#b00020", "C": "#8a5a00", "": INK}
 TINTS = {"O": "#fdecee", "C": "#fff6e0"}
+APART = {"unicode_bidi": "isolate"}  # a name that reads from right to left turns nothing else around
 FONTS = "Arial, Helvetica, 'Liberation Sans', 'DejaVu Sans', sans-serif"
 
 
@@ -137,7 +138,7 @@ def badge(verdict, x, y):
 def text_line(runs, x, y, colours):
     """A line of text; y is its baseline."""
     pieces = [mark("tspan", escape(run.text), font_size=SIZES[run.style], font_weight="bold" if run.bold else "normal",
-                   fill=colours[run.tone]) for run in runs]
+                   fill=colours[run.tone], **({} if run.text.isascii() else APART)) for run in runs]
     return mark("text", "".join(pieces), x=x, y=y)
 
 
@@ -223,16 +224,17 @@ def bus_group(bus, items):
     return mark("g", bus_tooltip(bus) + "\n" + items_of(items, COLOURS[bus.verdict]) + "\n", data_bus=bus.number)
 
 
-def drawn(drawing, buses, title):
-    """A drawing whose places are given, as SVG in its natural size."""
+def drawn(drawing, buses, title, name=""):
+    """A drawing whose places are given, as SVG in its natural size. On a page that shows parts of it again, all that is drawn is a
+    group of this name."""
     owned = {bus.number: [] for bus in buses}
     for item in drawing.items:
         owned.setdefault(item.bus, []).append(item)
-    parts = [mark("title", escape(lettering.clean(title))),
-             mark("desc", escape(f"One-line diagram of a radial network from the feeder down. {summary(buses)}.")),
-             mark("rect", width=drawing.width, height=drawing.height, fill=PAPER),
-             items_of(owned.get(None, []), INK)]
+    words = [mark("title", escape(lettering.clean(title))),
+             mark("desc", escape(f"One-line diagram of a radial network from the feeder down. {summary(buses)}."))]
+    parts = [mark("rect", width=drawing.width, height=drawing.height, fill=PAPER), items_of(owned.get(None, []), INK)]
     parts += [bus_group(bus, owned[bus.number]) for bus in sorted(buses, key=lambda bus: bus.number)]
+    parts = words + ([mark("g", "\n" + "\n".join(parts) + "\n", id=name)] if name else parts)
     wide, tall = number(drawing.width), number(drawing.height)
     return mark("svg", "\n" + "\n".join(parts) + "\n", xmlns="http://www.w3.org/2000/svg", role="img", width=wide, height=tall,
                 viewBox=f"0 0 {wide} {tall}", font_family=FONTS) + "\n"

@@ -7,6 +7,8 @@ from desk.records import rows_of
 from desk.rewriting import with_accepted, written
 from desk.studies import rounded
 from desk.table import verdict_words
+from desk.units import WHOLE
+from desk.verdicts import is_to_heed
 
 
 def title_of(source):
@@ -14,15 +16,17 @@ def title_of(source):
     return "Study" if source == "-" else os.path.splitext(os.path.basename(source))[0]
 
 
-def drawn(study, buses, title):
-    """The SVG of an accepted study; the words of a verdict are those of the table."""
+def drawn_buses(study, answers, buses, units=WHOLE):
+    """What is drawn of an accepted study; the words of a verdict are those of the table."""
     rows = [row.decode("ascii").split(",") for row in rows_of(study.rows)]
-    words = {bus.number: verdict_words(bus) for bus in figures_of(study.rows, buses)}
-    return diagram.svg(oneline.buses_of(rows, buses, dict(enumerate(study.names)), words), title)
+    words = {bus.number: verdict_words(bus, units) for bus in buses}
+    return oneline.buses_of(rows, answers, dict(enumerate(study.names)), words)
 
 
 def as_diagram(source, target, force, exact):
     """Rows or a plan as a diagram. The program is asked first: what it refuses is explained and not drawn."""
     def make(study, got):
-        return written(drawn(study, got, title_of(source)).encode("utf-8"), target, force, rounded(study))
+        buses = figures_of(study.rows, got)
+        content = diagram.svg(drawn_buses(study, got, buses), title_of(source)).encode("utf-8")
+        return written(content, target, force, rounded(study))._replace(heed=is_to_heed(buses))
     return with_accepted(source, target, exact, make)

@@ -206,12 +206,12 @@ def text_item(kind, run, y, room, size):
 
 
 def heading_items(buses, title, note, room):
-    """Title, counts, a note and the legend, from the top of the drawing down."""
-    items = [text_item("title", Run(title, "name", True), MARGIN, room, TITLE_SIZE)]
+    """Title, counts, a note and the legend, from the top of the drawing down. Where the title is empty it takes no room."""
+    items = [text_item("title", Run(title, "name", True), MARGIN, room, TITLE_SIZE)] if title else []
     texts = [summary(buses), note] if note else [summary(buses)]
     if any(bus.figure for bus in buses):
         texts.append("Currents: upper bound of the initial current / peak")
-    top = MARGIN + TITLE_ROW
+    top = MARGIN + (TITLE_ROW if title else 0)
     items += [text_item("text", Run(text, "plain", False, "muted"), top + TEXT_ROW * k, room, SIZES["plain"])
               for k, text in enumerate(texts)]
     return items + list(legend_items(legend_entries(buses), top + TEXT_ROW * len(texts) + 6, room))

@@ -44,11 +44,16 @@ def width(text, size, bold=False):
     return sum(map(letter_width, text)) * size * (BOLD if bold else 1)
 
 
+def harmless(text):
+    """A text without what XML forbids or what would turn it around: such characters become a question mark."""
+    if text.isprintable():
+        return text
+    return "".join("?" if unicodedata.category(letter) in UNSHOWN and not letter.isspace() else letter for letter in text)
+
+
 def clean(text):
-    """One line without what XML forbids or what would turn the text around: such characters become a question mark."""
-    if not text.isprintable():
-        text = "".join("?" if unicodedata.category(letter) in UNSHOWN and not letter.isspace() else letter for letter in text)
-    return " ".join(text.split())
+    """The same on one line."""
+    return " ".join(harmless(text).split())
 
 
 def fitted(text, size, bold, room):

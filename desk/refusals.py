@@ -3,6 +3,7 @@
 Nothing is refused here. Where no reason is found the explanation says so; the program's answer stands all the same.
 """
 import re
+from typing import NamedTuple
 
 from desk import form, grounds
 from desk.mend import mended
@@ -63,8 +64,29 @@ def in_plan(text, row, sentences, names):
     return [f"In the plan, {listed(f'bus {bus} is {quoted(names[bus])}' for bus in buses)}."] if buses else []
 
 
-def explained(text, number, row, names=()):
-    """The explanation of the program's answer `refused,number,row` to a text; `names` of the buses, where a plan was its source."""
+class Explanation(NamedTuple):
+    """A refusal in words."""
+    ground: int
+    row: int
+    reason: str        # what the ground is
+    picture: str       # the row with its number, and marks under the places; empty where it would help nobody
+    fields: tuple      # those that are marked, from 1 behind the row's letter; none where the text breaks the form
+    sentences: tuple   # what is wrong there
+
+    def head(self):
+        return f"refused: {self.reason} (ground {self.ground})."
+
+    def text(self):
+        return "\n".join(filter(None, [self.head(), self.picture, *("  " + sentence for sentence in self.sentences)]))
+
+
+def marked_fields(content, places):
+    """The fields of a row that places in it lie in; 0, the letter, is none."""
+    return tuple(sorted({content.count(b",", 0, start) for start, _ in places} - {0}))
+
+
+def explanation(text, number, row, names=()):
+    """The program's answer `refused,number,row` to a text, explained; `names` of the buses, where a plan was its source."""
     found = form.findings(text, row) if number == 16 else grounds.findings(text, number, row)
     rows = rows_of(text)
     content = rows[row - 1] if 0 < row <= len(rows) else b""
@@ -75,5 +97,9 @@ def explained(text, number, row, names=()):
         sentences += hint(text, row, found)
     sentences += in_plan(text, row, sentences, names)
     heading = f"row {row}, made from the plan: " if names else f"row {row}: "
-    return "\n".join([f"refused: {reason} (ground {number}).", picture(heading, content, marks)]
-                     + ["  " + sentence for sentence in sentences])
+    fields = () if number == 16 else marked_fields(content, marks)
+    return Explanation(number, row, reason, picture(heading, content, marks), fields, tuple(sentences))
+
+
+def explained(text, number, row, names=()):
+    return explanation(text, number, row, names).text()

@@ -5,6 +5,7 @@ from typing import NamedTuple
 from desk.oneline import power
 from desk.records import GENERATOR, named, rows_of
 from desk.table import columns, with_column
+from desk.units import WHOLE
 
 LEAST = 100  # listed is what comes to a hundredth of the breaking current or more
 NO_GENERATOR = "The study has no generator, so that there are no shares to list."
@@ -75,38 +76,39 @@ def percent(part, whole):
     return f"{tenths // 10:,}.{tenths % 10} %"
 
 
-def bus_cells(breaking, generators):
+def bus_cells(breaking, generators, units=WHOLE):
     """The last three cells of each line of a bus."""
     figure = breaking.figure
     listed, small = parted(alike([Share(words, 1, *breaking.bounds[place]) for place, words in generators.items()]), figure)
-    lines = [(share.words, f"{share.lower:,} to {share.upper:,}", percent(share.upper, figure)) for share in listed]
+    lines = [(share.words, units.bounds(share.lower, share.upper), percent(share.upper, figure)) for share in listed]
     if small:
         rest = together("", small)
-        lines.append((f"{rest.count} generators, each below 1 %", f"at most {rest.upper:,}", percent(rest.upper, figure)))
+        lines.append((f"{rest.count} generators, each below 1 %", f"at most {units.amperes(rest.upper)}", percent(rest.upper, figure)))
     return lines
 
 
-def bus_lines(number, breaking, generators):
+def bus_lines(number, breaking, generators, units):
     """The lines of a bus; its number and its breaking current stand in the first alone."""
-    fronts = [(str(number), f"{breaking.figure:,}")] + [("", "")] * len(generators)
-    return [front + line for front, line in zip(fronts, bus_cells(breaking, generators))]
+    fronts = [(str(number), units.amperes(breaking.figure))] + [("", "")] * len(generators)
+    return [front + line for front, line in zip(fronts, bus_cells(breaking, generators, units))]
 
 
 # ---- all of it
 
-def table_of_shares(found, delay, generators, names):
-    by_bus = [bus_lines(number, breaking, generators) for number, breaking in enumerate(found)]
+def share_lines(found, delay, generators, names, units=WHOLE):
+    """The cells of the table of shares, the headings first."""
+    by_bus = [bus_lines(number, breaking, generators, units) for number, breaking in enumerate(found)]
     lines = [("bus", heading(delay), "generator", "share", "of Ib at most")] + [line for lines in by_bus for line in lines]
     if names:
         column = [name if place == 0 else "" for name, lines in zip(names, by_bus) for place in range(len(lines))]
         lines = with_column(lines, 1, ["name", *column])
-    return columns(lines)
+    return lines
 
 
-def shares(study_text, found, delay, bus_names=(), source_names=()):
+def shares(study_text, found, delay, bus_names=(), source_names=(), units=WHOLE):
     """What stands below the table of buses. `found` has the Breaking of each bus."""
     generators = generators_of(study_text, bus_names, source_names)
     what = WHAT_IT_IS.format(delay)
     if not generators:
         return f"{what}\n\n{NO_GENERATOR}"
-    return "\n\n".join([what, table_of_shares(found, delay, generators, bus_names), WHAT_SHARES_ARE])
+    return "\n\n".join([what, columns(share_lines(found, delay, generators, bus_names, units)), WHAT_SHARES_ARE])

@@ -6,21 +6,34 @@ from typing import NamedTuple
 from desk.trouble import Trouble
 
 
+# What stands for a letter that an encoding has not, where it has a name; the mark of I″k is as wide as its stand-in.
+STAND_INS = {"Ω": "ohm", "μ": "mu", "″": '"', "√": "root "}
+
+
 class Answer(NamedTuple):
     """The exit status, what goes to standard output (text, or bytes as they are) and what to standard error."""
     status: int
     out: object = ""
     notes: str = ""
+    heed: bool = False  # some bus is over or close, which --strict makes a status of its own
+
+
+def takes(encoding, words):
+    try:
+        words.encode(encoding)
+        return True
+    except UnicodeEncodeError:
+        return False
 
 
 def fitted(words, stream):
-    """Words as a stream can show them: what its encoding has not comes as \\x codes, ohm and mu by their names."""
+    """Words as a stream can show them: what its encoding has not comes by its stand-in, or else as \\x codes. What it has stays, so
+    that names are as wide in a text as they are alone."""
     encoding = getattr(stream, "encoding", None) or "ascii"
-    try:
-        words.encode(encoding)
+    if takes(encoding, words):
         return words
-    except UnicodeEncodeError:
-        return words.replace("Ω", "ohm").replace("μ", "mu").encode(encoding, "backslashreplace").decode(encoding)
+    stand_ins = {letter: name for letter, name in STAND_INS.items() if not takes(encoding, letter)}
+    return words.translate(str.maketrans(stand_ins)).encode(encoding, "backslashreplace").decode(encoding)
 
 
 def silence(stream):

@@ -5,18 +5,33 @@ from typing import NamedTuple
 
 from desk import files
 from desk.breaking import breakings
+from desk.confirming import confirmed, sentence
+from desk.drivers import drivers
 from desk.figures import figures_of
+from desk.ordering import suggestions
 from desk.plan import Mistakes, rows_of_plan
 from desk.program import Refusal, answer
-from desk.refusals import explained
+from desk.refusals import explanation
 from desk.shares import heading, shares
 from desk.show import visible
 from desk.streams import Answer, fitted
 from desk.table import table
 from desk.texts import MARK, wide
+from desk.units import KILO, WHOLE
+from desk.verdicts import is_to_heed
 
 IN_ROWS = re.compile(r"[Ss]\s*[,;\t]\s*\d")
 A_PLAN = "It looks like a plan, and was taken for rows: the name of a plan ends in .toml, and --toml and --fix are for rows."
+
+
+class Options(NamedTuple):
+    """What is asked for beside the table."""
+    exact: bool = False    # nothing in a plan is rounded
+    delay: str = ""        # of the breaking currents, where they are asked for
+    units: bool = False    # kV, kA and MVA
+    why: bool = False      # what drives the verdicts
+    order: bool = False    # what to order
+    confirm: bool = False  # a second opinion
 
 
 class Study(NamedTuple):
@@ -66,11 +81,14 @@ def from_plan(data, exact):
     return Study(converted.rows, tuple(converted.names), tuple(converted.roundings), tuple(converted.sources))
 
 
+def mistakes_head(found):
+    count = len(found.mistakes)
+    return f"refused: the plan has {count} {'mistake' if count == 1 else 'mistakes'}."
+
+
 def mistaken(found):
     """All mistakes of a plan, as they are listed."""
-    count = len(found.mistakes)
-    head = f"refused: the plan has {count} {'mistake' if count == 1 else 'mistakes'}."
-    return "\n".join([head] + ["  " + visible(one) for one in found.mistakes])
+    return "\n".join([mistakes_head(found)] + ["  " + visible(one) for one in found.mistakes])
 
 
 def rounded(study):
@@ -80,37 +98,46 @@ def rounded(study):
 
 # ---- what is said
 
+def explanation_of(study, got):
+    """The explanation of a refusal. What is wrong with a plan as rows helps nobody, so that only the ground is said."""
+    found = explanation(study.rows, *got, study.names)
+    is_no_rows = got.number == 16 and looks_like_plan(study.rows)
+    return found._replace(picture="", sentences=(A_PLAN,)) if is_no_rows else found
+
+
 def refused(study, got):
-    """The explanation of a refusal. What is wrong with a plan as rows helps nobody, so that only its first line is said."""
-    said = explained(study.rows, *got, study.names)
-    return said.split("\n")[0] + f"\n  {A_PLAN}" if got.number == 16 and looks_like_plan(study.rows) else said
+    return explanation_of(study, got).text()
 
 
-def judged(study, delay=""):
-    """The program's answer to a study, for people; with a delay, the breaking currents too."""
+def judged(study, options=Options()):
+    """The program's answer to a study, for people, and what else is asked for."""
     got = answer(study.rows)
     if isinstance(got, Refusal):
         return Answer(1, refused(study, got))
     # names before the columns are measured
     names, sources = ([fitted(name, sys.stdout) for name in words] for words in (study.names, study.sources))
-    buses = figures_of(study.rows, got, names)
-    said = with_breaking(study.rows, buses, delay, names, sources) if delay else [table(buses)]
-    return Answer(0, "\n\n".join(filter(None, [*said, rounded(study)])))
+    buses, delay = figures_of(study.rows, got, names), options.delay
+    found = breakings(study.rows, delay) if delay else []
+    units = KILO if options.units else WHOLE
+    said = [table(buses, breaking_column(found, delay, units), units)]
+    said.append(shares(study.rows, found, delay, names, sources, units) if delay else "")
+    said.append(drivers(buses, units) if options.why else "")
+    said.append(suggestions(buses, units) if options.order else "")
+    said.append(rounded(study))
+    said.append(sentence(confirmed(study.rows, buses, found, delay), delay) if options.confirm else "")
+    return Answer(0, "\n\n".join(filter(None, said)), heed=is_to_heed(buses))
 
 
-def with_breaking(rows, buses, delay, names, sources):
-    """The table with a column of breaking currents, and who contributes how much to them."""
-    found = breakings(rows, delay)
-    column = [heading(delay)] + [f"{one.figure:,}" for one in found]
-    return [table(buses, column), shares(rows, found, delay, names, sources)]
+def breaking_column(found, delay, units):
+    return [heading(delay)] + [units.amperes(one.figure) for one in found] if found else []
 
 
-def shown(path, exact=False, delay=""):
-    """`board FILE`, and `board --breaking MS FILE`."""
+def shown(path, options=Options()):
+    """`board FILE`, with its options."""
     data = files.read(path)
     if not is_plan(path, data):
-        return judged(Study(data), delay)
+        return judged(Study(data), options)
     try:
-        return judged(from_plan(files.whole(path, data), exact), delay)
+        return judged(from_plan(files.whole(path, data), options.exact), options)
     except Mistakes as found:
         return Answer(1, mistaken(found))
