@@ -1,9 +1,7 @@
 """The must-fail edits: wrong programs and false laws, each of which the prover must refuse because a proof no longer goes through. Here
 they are read and applied; tools/trying.py tries them, tools/logs.py reads what the prover says.
 
-Those that change the body of one function and nothing else can be tried together. Such an edit can break the proof of that function
-alone: its callers and all laws know a function by its contract, which stays as it is, and no proof can look into the code of another
-function, unless the two call each other."""
+Those that change the body of one function and nothing else can be tried together, each of another function: tools/trying.py says why."""
 import re
 from pathlib import Path
 from typing import NamedTuple
@@ -17,7 +15,7 @@ FUNCTION = re.compile(
 # The words of what is no part of a body, wherever it stands.
 ITEM = re.compile(r"\b(?:fn|const|static|struct|enum|type|use|mod|impl|trait|extern|ghost)\b")
 # So many edits are tried together at most.
-MOST = 12
+MOST = 30
 
 
 def read(path):
@@ -69,10 +67,11 @@ class Change(NamedTuple):
     name: str
     body: str
 
-    def function(self, crate):
-        """The function's name as the prover writes it: src/calls.rt has those of CRATE::calls, src/lib.rt and src/main.rt those of CRATE."""
+    @property
+    def function(self):
+        """The function as the prover names it within its crate: src/calls.rt has those of calls, src/lib.rt and src/main.rt the topmost."""
         modules = [part for part in Path(self.file).with_suffix("").parts[1:] if part not in ("lib", "main", "mod")]
-        return "::".join([crate, *modules, self.name])
+        return "::".join([*modules, self.name])
 
 
 def bodies_of(text):
@@ -85,10 +84,15 @@ def with_bodies(text, bodies):
     return FUNCTION.sub(lambda found: found["head"] + bodies.get(found["name"], found["body"]) + "}", text)
 
 
+def asks_code(folder):
+    """Whether a contract of the crate asks what code returns, so that it changes with a body."""
+    return any("⟦" in read(path) for path in folder.glob("src/**/*.rt"))
+
+
 def change_of(edit, folder):
     """What the edit makes of one body, or None where it changes anything else, or does not apply."""
     try:
-        texts = {} if misplaced(edit) else edited(edit, folder)
+        texts = {} if misplaced(edit) or asks_code(folder) else edited(edit, folder)
     except (ValueError, OSError):
         return None
     file = "".join(texts)
@@ -104,16 +108,18 @@ def change_of(edit, folder):
 
 def together(changes, folder):
     """The files that several changes make, each of another function."""
-    files = {change.file for change in changes}
-    return {file: with_bodies(read(folder / file), {change.name: change.body for change in changes if change.file == file}) for file in files}
+    bodies = {}
+    for change in changes:
+        bodies.setdefault(change.file, {})[change.name] = change.body
+    return {file: with_bodies(read(folder / file), made) for file, made in bodies.items()}
 
 
 def groups_of(changes):
     """Puts changes into groups to be tried together, each of another function."""
-    functions, groups = [change[1:3] for change in changes], []
-    for change in sorted(changes, key=lambda change: (-functions.count(change[1:3]), change)):
-        open_ones = (group for group in groups if len(group) < MOST and change[1:3] not in [other[1:3] for other in group])
-        group = next(open_ones, None)
+    functions, groups = [change.function for change in changes], []
+    for change in sorted(changes, key=lambda change: (-functions.count(change.function), change)):
+        fitting = (group for group in groups if len(group) < MOST and change.function not in [other.function for other in group])
+        group = next(fitting, None)
         if group is None:
             groups.append(group := [])
         group.append(change)

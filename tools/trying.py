@@ -6,11 +6,12 @@ by `rt dev`, which takes what an edit leaves as it was from the crate's incremen
 so it is the edit that is refused. Before each the folder is as the first of these proofs left it.
 
 Edits of several functions' bodies are tried together, by one run. Each can break the proof of its own function alone: callers and laws
-know a function by its contract, which stays as it is. What another proof loses by that the prover reports in words of its own, which
-never count ("was not admitted", "it calls .., which is not proved"). So an edit counts as refused by such a run where its function is
-not proved and the first error in that function's own proof is that of a fact, as in a run for it alone; and only where nothing is at
-fault that was not changed. Every other edit is tried alone, and what that says counts. So a group can save time, and lets no edit pass
-that would not be refused alone."""
+know a function by its contract, which stays as it is, and a function's code is private to its own proof. Of a caller's proof only the
+last step takes the theorem of what it calls, and what the prover says of that step where there is no such theorem ("was not admitted",
+"it calls .., which is not proved") never counts. So an edit counts as refused by such a run where its function is not proved and the
+first error in that function's own proof is that of a fact, as in a run for it alone; and only where nothing is at fault that was not
+changed. Every other edit is tried alone, and what that says counts. So a group can save time, and lets no edit pass that would not be
+refused alone."""
 import os
 import re
 import shutil
@@ -138,9 +139,9 @@ def try_group(folder, name, group):
     """Tries several changes together: the lines to print of the edits that are shown to be refused, by edit."""
     began = time.monotonic()
     log = log_with(folder, name, together(group, folder / "crates" / name))
-    refused = refused_each(log, {change.function(name) for change in group})
-    seconds = time.monotonic() - began
-    return {change.edit: f"{REFUSED} ({seconds:.1f} s for {len(group)})" for change in group if change.function(name) in refused}
+    refused = refused_each(log, {f"{name}::{change.function}" for change in group})
+    said = f"{REFUSED} ({time.monotonic() - began:.1f} s for {len(group)})"
+    return {change.edit: said for change in group if f"{name}::{change.function}" in refused}
 
 
 def try_groups(folder, name, edits):
