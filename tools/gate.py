@@ -12,9 +12,12 @@ from concurrent.futures import ThreadPoolExecutor
 from pathlib import Path
 from threading import Event
 
-from edits import QuickEdits, listed_edits, read, refusals
+from edits import read
+from trying import QuickEdits, listed_edits, refusals
 
 COUNT = re.compile(r"(\d+) passed, (\d+) failed")
+# The tests that take longest, which begin first, so that none of them is left to run alone at the end.
+LONG = ("check-plants", "check-judge-itself", "check-board")
 
 
 def run(command, show=True, hear=None):
@@ -130,6 +133,21 @@ def try_test(path):
     return lines, judged(path, status, count), time.monotonic() - began
 
 
+def let_tests(pool):
+    """Lets the workers run the tests of tests/, the long ones first: each test with its task, by name."""
+    paths = sorted(Path("tests").glob("check-*"))
+    tasks = {path: pool.submit(try_test, path) for path in sorted(paths, key=lambda path: path.name not in LONG)}
+    return [(path, tasks[path]) for path in paths]
+
+
+def result_of(path, task):
+    """What a worker gives of a test. An exception there is a failure of the test, and the gate goes on."""
+    try:
+        return task.result()
+    except Exception as error:
+        return [], (0, 1, [f"{path}: it was not tried: {type(error).__name__}: {error}"]), 0
+
+
 # ---- all of it
 
 def beside_rt_ci(pool, workers):
@@ -150,13 +168,13 @@ def shown_parts(pool, workers, crates, edits):
     finally:
         over.set()
     quick.let_rest()
-    tests = [(path, pool.submit(try_test, path)) for path in sorted(Path("tests").glob("check-*"))]
+    tests = let_tests(pool)
     yield "crates (rt ci)", proof, time.monotonic() - began
     yield "must-fail edits (rt ci)", refusals(edits), 0
     print("---- must-fail edits (rt dev)")
     yield "must-fail edits (rt dev)", *quick.results()
     for path, task in tests:
-        lines, result, seconds = task.result()
+        lines, result, seconds = result_of(path, task)
         print("\n".join([f"---- {path}", *lines]))
         yield str(path), result, seconds
 
