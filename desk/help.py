@@ -104,7 +104,7 @@ options
         Writes the same figures as lines of CSV, a line of headings and one for each bus, in the same way: UTF-8, commas, CRLF.
         An apostrophe stands before a name that begins with = + - @, which a spreadsheet would calculate with, or with an
         apostrophe. A refused study has no lines, and nothing is written.
-        With all that write a file, roundings, refusals and what --confirm says go to standard error.
+        With all that write a file but --fix, roundings, refusals and what --confirm says go to standard error.
     --strict
         The exit status is 3 where a study is accepted and some bus is over or close.
     --force
