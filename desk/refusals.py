@@ -99,7 +99,3 @@ def explanation(text, number, row, names=()):
     heading = f"row {row}, made from the plan: " if names else f"row {row}: "
     fields = () if number == 16 else marked_fields(content, marks)
     return Explanation(number, row, reason, picture(heading, content, marks), fields, tuple(sentences))
-
-
-def explained(text, number, row, names=()):
-    return explanation(text, number, row, names).text()

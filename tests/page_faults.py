@@ -62,8 +62,7 @@ def reference_faults(root):
     """Whatever a browser would fetch or run."""
     found = []
     for one in root.iter():
-        known = DRAWN if one.tag.startswith(SVG) or plain(one.tag) == "svg" or plain(one.tag) in DRAWN - {"title"} else ELEMENTS
-        if plain(one.tag) not in known | ELEMENTS:
+        if plain(one.tag) not in ELEMENTS | DRAWN:
             found.append(f"an element {one.tag}")
         found += [f"{key} = {value}" for key, value in one.items()
                   if key in ("src", "srcset", "data", "action") or key.startswith("on") or key == "href" and value != "#drawing"]
@@ -158,7 +157,7 @@ def due_inputs(title, rows):
     return told if letter == "B" else list(dict.fromkeys(told))
 
 
-def input_faults(tables, rows, names):
+def input_faults(tables, rows):
     """Each number that was put in stands in its table; that of a source may stand in several lines, one for each name."""
     found = []
     for title, (letter, _, fields) in INPUTS.items():
@@ -219,6 +218,6 @@ def faults_of(text, rows, answers, names=()):
         return wrong
     tables = tables_of(root)
     lines = without_breaking(tables.get(("Buses", "Currents in amperes"), [[]]))
-    wrong += bus_faults(lines, rows, answers, names) + input_faults(tables, rows, names) + count_faults(root, answers)
+    wrong += bus_faults(lines, rows, answers, names) + input_faults(tables, rows) + count_faults(root, answers)
     wrong += drawing_faults(root, answers, names)
     return wrong + (["the headings are not those of the table"] if lines[0][-1:] != ["verdict"] else [])

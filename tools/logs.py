@@ -64,7 +64,7 @@ def function_of(entry):
 
 def refused_each(log, functions):
     """Those of the functions, whose bodies were changed together, that the log shows to be refused each for itself: it is not proved, and
-    the first error in its own proof is that of a fact. None, where anything is at fault that was not changed."""
+    the first error in its own proof is that of a fact. No function, where anything is at fault that was not changed."""
     entries = entries_of(log)
     verdicts = {found[1]: entry for entry in entries if (found := UNPROVED.match(entry))}
     faults = [(name, entry) for name, entry in verdicts.items() if not BY_ANOTHER.search(entry)]
