@@ -14,6 +14,8 @@ FUNCTION = re.compile(
     rf"^(?P<head>{BEGINS}(?:{OPENS}|[^\n]*\n(?:[ )][^\n]*\n)*?(?:\{{\n|\){OPENS})))(?P<body>(?:(?: [^\n]*)?\n)*?)\}}$", re.M)
 # The words of what is no part of a body, wherever it stands.
 ITEM = re.compile(r"\b(?:fn|const|static|struct|enum|type|use|mod|impl|trait|extern|ghost)\b")
+# What a body calls, as far as a name before a parenthesis shows it.
+CALL = re.compile(r"\b(\w+)\(")
 # So many edits are tried together at most.
 MOST = 30
 
@@ -89,8 +91,14 @@ def asks_code(folder):
     return any("⟦" in read(path) for path in folder.glob("src/**/*.rt"))
 
 
+def stays_within(old, new):
+    """Whether a body has no item of its own, before and after, and then calls nothing that it did not call: two bodies that each call the
+    other's function for the first time would make a circle together, and none alone."""
+    return not ITEM.search(old + new) and set(CALL.findall(new)) <= set(CALL.findall(old))
+
+
 def change_of(edit, folder):
-    """What the edit makes of one body, or None where it changes anything else, or does not apply."""
+    """What the edit makes of one body, or None where it changes anything else, calls something else, or does not apply."""
     try:
         texts = {} if misplaced(edit) or asks_code(folder) else edited(edit, folder)
     except (ValueError, OSError):
@@ -101,7 +109,7 @@ def change_of(edit, folder):
     old, new = read(folder / file), texts[file]
     before, after = bodies_of(old), bodies_of(new)
     names = [name for name in before if before[name] != after.get(name, before[name])]
-    if len(names) != 1 or with_bodies(old, {names[0]: after[names[0]]}) != new or ITEM.search(before[names[0]] + after[names[0]]):
+    if len(names) != 1 or with_bodies(old, {names[0]: after[names[0]]}) != new or not stays_within(before[names[0]], after[names[0]]):
         return None
     return Change(edit, file, names[0], after[names[0]])
 
