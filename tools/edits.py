@@ -87,8 +87,10 @@ def with_bodies(text, bodies):
 
 
 def asks_code(folder):
-    """Whether a contract of the crate asks what code returns, so that it changes with a body."""
-    return any("⟦" in read(path) for path in folder.glob("src/**/*.rt"))
+    """Whether a contract of the crate asks what code returns, so that it changes with a body; or a proof names code, which may be that of
+    another function where this is recursive."""
+    return (any("⟦" in read(path) for path in folder.glob("src/**/*.rt"))
+            or any(re.search(r"\bCode\b", read(path)) for path in folder.glob("proofs/**/*.antt")))
 
 
 def stays_within(old, new):
