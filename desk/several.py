@@ -5,7 +5,7 @@ from desk import files
 from desk.outcome import Refused, outcome_of
 from desk.show import visible
 from desk.streams import Answer, fitted
-from desk.studies import Options
+from desk.studies import Options, is_plan
 from desk.table import columns, verdict_words
 from desk.trouble import Trouble
 from desk.verdicts import called, count_of, is_to_heed, worst
@@ -29,7 +29,9 @@ def tried(path, exact):
     there: where the program cannot be run, that goes for all of them and ends the command."""
     name = visible(files.name_of(path))
     try:
-        data = files.whole(path, files.read(path))
+        data = files.read(path)
+        if is_plan(path, data):
+            files.whole(path, data)
     except Trouble as trouble:
         return 2, False, (name, *NONE, f"not read: {str(trouble).removeprefix(files.name_of(path) + ': ')}")
     outcome = outcome_of(path, data, Options(exact))
