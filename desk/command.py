@@ -6,6 +6,7 @@ from desk.help import HELP, USAGE
 from desk.revision import edition
 from desk.rewriting import as_plan, as_rows, fixed, in_rows
 from desk.several import listed
+from desk.show import visible
 from desk.streams import Answer, complain, deliver
 from desk.studies import Options, shown
 from desk.trouble import Trouble
@@ -29,10 +30,12 @@ FORMS = {
     "--help": (set(), (0,)),
     "--version": (set(), (0,)),
 }
+ALL = FORMS.keys() | set().union(*(beside for beside, _ in FORMS.values()))
+UNASKED = {(form, option) for form in ("--html", "--json", "--csv") for option in ("--why", "--order")}
 
 
 class Usage(Exception):
-    """Words that are no command."""
+    """Words that are no command; where it is known, with what is wrong."""
 
 
 def parsed(words):
@@ -58,9 +61,22 @@ def form_of(options, names):
     beside, counts = FORMS[form]
     if not form and len(names) > 1:
         beside = SEVERAL
-    if not options.keys() <= beside | {form} or len(names) not in counts or not form and names.count("-") > 1:
+    if stray := [option for option in options if option not in beside | {form}]:
+        raise Usage(misplaced(stray[0], form))
+    if form == "--breaking" and len(names) > 1:
+        raise Usage(misplaced(form, ""))
+    if len(names) not in counts or not form and names.count("-") > 1:
         raise Usage()
     return form
+
+
+def misplaced(option, form):
+    """Why an option does not stand with the others."""
+    if option not in ALL:
+        return f"there is no option {visible(option)}"
+    if form:
+        return f"{option} does not go with {form}" + (", which has it unasked" if (form, option) in UNASKED else "")
+    return f"{option} goes with a single file" if option in PRINTING | {"--breaking"} else f"{option} goes with an option that writes a file"
 
 
 def carried_out(words):
@@ -108,8 +124,8 @@ def main(words):
         return answer.status
     except BrokenPipeError:
         return 2
-    except Usage:
-        complain(USAGE)
+    except Usage as usage:
+        complain("\n".join([f"board: {words}" for words in usage.args] + [USAGE]))
     except Trouble as trouble:
         complain(f"board: {trouble}")
     except KeyboardInterrupt:

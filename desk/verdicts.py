@@ -20,11 +20,11 @@ def called(bus):
 
 
 def whole(buses):
-    """The verdict of a study in a sentence."""
+    """The verdict of a study in a sentence, the worst first."""
     total = len(buses)
     if not is_to_heed(buses):
         return f"All {total} buses are within their ratings." if total > 1 else "The bus is within its ratings."
-    counts = [(count_of(buses, letter), words) for letter, words in VERDICT_WORDS.items()]
+    counts = [(count_of(buses, letter), VERDICT_WORDS[letter]) for letter in reversed(ORDER)]
     (first, words), *others = [(count, words) for count, words in counts if count]
     told = [f"{first} of {total} {'bus' if total == 1 else 'buses'} {'is' if first == 1 else 'are'} {words}"]
     return ", ".join(told + [f"{count} {'is' if count == 1 else 'are'} {words}" for count, words in others]) + "."

@@ -226,7 +226,7 @@ class Entry:
             elif not isinstance(value, str):
                 self.mistake(key, f"{key} = {shown(value)} is {type_words(value)}; a name is text in quotes")
             elif not value.strip() or not value.isprintable():
-                self.mistake(key, f"{key} = {shown(value)}: a name has at least one letter and stands on one line")
+                self.mistake(key, f"{key} = {shown(value)}: a name has at least one letter and no control characters")
             else:
                 self.words[key] = value
 

@@ -1,4 +1,4 @@
-// Document 01's factors, each equal to its definition for every argument.
+// Document 01's factors, each equal to its definition; where a table ends before the argument does, to its nearest entry.
 use crate::tables::PEAKS;
 use crate::tables::SINES;
 use crate::tables::SPLITS;

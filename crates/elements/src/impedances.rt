@@ -31,7 +31,7 @@ pub fn transformer(tolerance: u32, lower: u32, own: u32, kva: u32, uk: u32, ur: 
     scale(z, 9_500 * c, 1_000_000 + 6 * ux)
 }
 
-// R and X of an impedance of 10^8 ohms whose R/X is rho hundredths.
+// R and X of an impedance of 10^8 ohms whose R/X is rho hundredths; nothing above 200, which no accepted record has.
 fn split(rho: u32) -> Complex
     ensures { λ z. ⌜ z ≡ splitBy rho ⌝ }
 {
