@@ -8,7 +8,8 @@ from desk.rewriting import as_plan, as_rows, fixed, in_rows
 from desk.several import listed
 from desk.show import visible
 from desk.streams import Answer, complain, deliver
-from desk.studies import Options, shown
+from desk.studies import Options
+from desk.telling import shown
 from desk.trouble import Trouble
 
 HANDING = {"--html": as_page, "--json": as_json, "--csv": as_csv}

@@ -1,4 +1,4 @@
-"""What becomes of a study, for all forms in which it is handed on: accepted with its figures, or refused with its explanation."""
+"""What becomes of a study, for all forms in which it is shown or handed on: accepted with its figures, or refused with its explanation."""
 import re
 from typing import NamedTuple
 
@@ -58,6 +58,11 @@ def outcome_of(path, data, options):
         study = from_plan(data, options.exact) if is_plan(path, data) else Study(data)
     except Mistakes as found:
         return Refused(mistakes_head(found), mistaken(found), mistakes=tuple(map(mistake_of, found.mistakes)))
+    return judged(study, options)
+
+
+def judged(study, options):
+    """What becomes of a study: the program is asked."""
     got = answer(study.rows)
     if isinstance(got, Refusal):
         explained = explanation_of(study, got)

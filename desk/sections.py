@@ -8,10 +8,9 @@ from desk.layout import layout
 from desk.markup import Markup, element, joined, paragraphs, table
 from desk.records import rows_of
 from desk.refusals import capital
-from desk.shares import NO_GENERATOR, WHAT_IT_IS, WHAT_SHARES_ARE, generators_of, share_lines
+from desk.shares import NO_GENERATOR, WHAT_IT_IS, WHAT_SHARES_ARE, breaking_column, generators_of, share_lines
 from desk.sheets import windows
 from desk.show import visible
-from desk.studies import breaking_column
 from desk.table import LEFT, columns, note, table_lines, verdict_words
 from desk.verdicts import called, whole, worst_first
 

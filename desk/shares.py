@@ -33,6 +33,11 @@ def heading(delay):
     return f"Ib {delay} ms"
 
 
+def breaking_column(found, delay, units):
+    """The column of breaking currents below its heading; empty where there are none."""
+    return [heading(delay)] + [units.amperes(one.figure) for one in found] if found else []
+
+
 # ---- the generators
 
 def label(values, bus_names, own_name):

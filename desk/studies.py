@@ -1,24 +1,11 @@
-"""A study as it is given, in rows or as a plan, and what `board FILE` says of it."""
+"""A study as it is given, in rows or as a plan, and the words on a refusal of it."""
 import re
-import sys
 from typing import NamedTuple
 
-from desk import files
-from desk.breaking import breakings
-from desk.confirming import confirmed, sentence
-from desk.drivers import drivers
-from desk.figures import figures_of
-from desk.ordering import suggestions
 from desk.plan import Mistakes, rows_of_plan
-from desk.program import Refusal, answer
 from desk.refusals import explanation
-from desk.shares import heading, shares
 from desk.show import visible
-from desk.streams import Answer, fitted
-from desk.table import table
 from desk.texts import MARK, wide
-from desk.units import KILO, WHOLE
-from desk.verdicts import is_to_heed
 
 IN_ROWS = re.compile(r"[Ss]\s*[,;\t]\s*\d")
 A_PLAN = "It looks like a plan, and was taken for rows: the name of a plan ends in .toml, and --toml and --fix are for rows."
@@ -96,7 +83,7 @@ def rounded(study):
     return "\n".join(["Rounded:"] + ["  " + visible(one) for one in study.roundings]) if study.roundings else ""
 
 
-# ---- what is said
+# ---- refused
 
 def explanation_of(study, got):
     """The explanation of a refusal. What is wrong with a plan as rows helps nobody, so that only the ground is said."""
@@ -107,37 +94,3 @@ def explanation_of(study, got):
 
 def refused(study, got):
     return explanation_of(study, got).text()
-
-
-def judged(study, options=Options()):
-    """The program's answer to a study, for people, and what else is asked for."""
-    got = answer(study.rows)
-    if isinstance(got, Refusal):
-        return Answer(1, refused(study, got))
-    # names before the columns are measured
-    names, sources = ([fitted(name, sys.stdout) for name in words] for words in (study.names, study.sources))
-    buses, delay = figures_of(study.rows, got, names), options.delay
-    found = breakings(study.rows, delay) if delay else []
-    units = KILO if options.units else WHOLE
-    said = [table(buses, breaking_column(found, delay, units), units)]
-    said.append(shares(study.rows, found, delay, names, sources, units) if delay else "")
-    said.append(drivers(buses, units) if options.why else "")
-    said.append(suggestions(buses, units) if options.order else "")
-    said.append(rounded(study))
-    said.append(sentence(confirmed(study.rows, buses, found, delay), delay) if options.confirm else "")
-    return Answer(0, "\n\n".join(filter(None, said)), heed=is_to_heed(buses))
-
-
-def breaking_column(found, delay, units):
-    return [heading(delay)] + [units.amperes(one.figure) for one in found] if found else []
-
-
-def shown(path, options=Options()):
-    """`board FILE`, with its options."""
-    data = files.read(path)
-    if not is_plan(path, data):
-        return judged(Study(data), options)
-    try:
-        return judged(from_plan(files.whole(path, data), options.exact), options)
-    except Mistakes as found:
-        return Answer(1, mistaken(found))
