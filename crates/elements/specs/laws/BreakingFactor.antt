@@ -8,7 +8,7 @@ use mathlib.Core.List.{List, [], _∷_}
 use mathlib.Core.Logic.{⊎-elim}
 use native.Mathlib.Omega.{arith}
 use native.Mathlib.Nat.{le-refl, mul-le-mul, eq-or-lt-of-le, not-le-of-lt}
-use lib.Dec.{T, leb, ltb, eqb, eqb→eq, leb→le, nleb→lt, le→leb, lit<}
+use lib.Dec.{T, leb, ltb, eqb, leb→le, nleb→lt, le→leb, lit<}
 use lib.ListN.{getD}
 use Rattle.algebra.specs.Reading.{from, from-over, read, _⊹_, _⋆_}
 use Rattle.enclosure.specs.Fraction.{Fraction}
@@ -17,7 +17,7 @@ use Rattle.enclosure.specs.laws.Root.{root-le}
 use Rattle.elements.specs.Factors.{tOver, tUnder, numerator, denominator, ceiling}
 use Rattle.elements.specs.BreakingFactor.{Formula, formula, formulaOf, formulaAt, muOf, greatest, tenthsOf, muAt}
 use Rattle.elements.specs.Doubles.{firstOf, muBy}
-use Rattle.elements.specs.laws.EachBelow.{below}
+use Rattle.elements.specs.laws.EachBelow.{below, table-rule}
 
 -- the table
 abbrev pub mus : List ℕ
@@ -69,13 +69,9 @@ unfolding muOf
 same-mu delay e i h = ap (λ (m : Formula). cond (ltb i 20) 1000 (formulaAt m i)) h
 
 -- ---- the rule
-right : ℕ → Bool
-unfolding muOf formulaOf ceiling tOver tUnder numerator denominator
-right k = eqb (getD mus k 0) (muOf (getD delays (k / 101) 250) (k % 101))
-
 rule : (k : ℕ) → k < 404 → getD mus k 0 ≡ muOf (getD delays (k / 101) 250) (k % 101)
-unfolding right
-rule k h = eqb→eq (getD mus k 0) (muOf (getD delays (k / 101) 250) (k % 101)) (below right 404 tt k h)
+unfolding muOf formulaOf ceiling tOver tUnder numerator denominator
+rule = table-rule mus (λ k. muOf (getD delays (k / 101) 250) (k % 101)) 404 tt
 
 -- entry i of a delay is μ at q = i/10
 pub mu-rule : (delay i : ℕ) → i < 101 → getD mus (firstOf delay + i) 0 ≡ muOf delay i

@@ -5,7 +5,9 @@ use mathlib.Core.Path.{_≡_, subst, sym}
 use mathlib.Core.Bool.{Bool, true, false}
 use mathlib.Core.Logic.{⊎-elim}
 use native.Mathlib.Nat.{le-of-suc-le-suc, eq-or-lt-of-le, not-suc-le-zero}
-use lib.Dec.{T}
+use mathlib.Core.List.{List}
+use lib.Dec.{T, eqb, eqb→eq}
+use lib.ListN.{getD}
 
 -- f is true at each number below n
 abbrev pub all : (ℕ → Bool) → ℕ → Bool
@@ -22,3 +24,7 @@ below f zero t k h = absurd (not-suc-le-zero h)
 below f (suc n) t k h =
     let s : T (f n) × T (all f n) = split (f n) (all f n) t in
     ⊎-elim (λ (e : k ≡ n). subst (λ (m : ℕ). T (f m)) (sym e) (s .0)) (λ (l : k < n). below f n (s .1) k l) (eq-or-lt-of-le (le-of-suc-le-suc h))
+
+-- a table t holds f at each of its n places: the test is computed where f can be unfolded
+pub table-rule : (t : List ℕ) (f : ℕ → ℕ) (n : ℕ) → T (all (λ (i : ℕ). eqb (getD t i 0) (f i)) n) → (i : ℕ) → i < n → getD t i 0 ≡ f i
+table-rule t f n c i h = eqb→eq (getD t i 0) (f i) (below (λ (k : ℕ). eqb (getD t k 0) (f k)) n c i h)

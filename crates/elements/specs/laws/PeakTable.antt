@@ -1,15 +1,14 @@
 -- The constant table of 231 numbers is document 01's K, by one test that is computed over the whole table. Assumes nothing.
 use Prim.Native.Nat.{ℕ, zero, suc, _+_, _*_, _≤_, _<_}
 use mathlib.Core.Path.{_≡_}
-use mathlib.Core.Bool.{Bool}
 use mathlib.Core.List.{List, [], _∷_}
 use native.Mathlib.Omega.{arith}
 use native.Mathlib.Nat.{div-lt-iff-lt-mul, lt-div-mul-add, le-of-suc-le-suc, le-refl, mul-le-mul}
-use lib.Dec.{eqb, eqb→eq, lit<}
+use lib.Dec.{lit<}
 use lib.ListN.{getD}
 use Rattle.elements.specs.Factors.{tOver, tUnder, numerator, denominator, ceiling, peakFactor}
 use Rattle.elements.specs.laws.Exponential.{t-least, tOver-pos}
-use Rattle.elements.specs.laws.EachBelow.{below}
+use Rattle.elements.specs.laws.EachBelow.{table-rule}
 
 pub ceiling-reaches : (a b : ℕ) → 0 < b → a ≤ ceiling a b * b
 unfolding ceiling
@@ -37,13 +36,9 @@ peaks =
     1022 ∷ 1022 ∷ 1022 ∷ 1022 ∷ 1022 ∷ 1022 ∷ 1022 ∷ 1022 ∷ 1022 ∷ 1022 ∷ 1022 ∷ 1022 ∷ 1022 ∷ 1022 ∷ 1022 ∷ 1022 ∷ 1022 ∷ 1022 ∷ 1022 ∷ 1022 ∷ 1021 ∷ []
 
 -- ---- the rule
-right : ℕ → Bool
-unfolding peakFactor ceiling tOver tUnder numerator denominator
-right i = eqb (getD peaks i 0) (peakFactor i)
-
 pub peaks-rule : (i : ℕ) → i < 231 → getD peaks i 0 ≡ peakFactor i
-unfolding right
-peaks-rule i h = eqb→eq (getD peaks i 0) (peakFactor i) (below right 231 tt i h)
+unfolding peakFactor ceiling tOver tUnder numerator denominator
+peaks-rule = table-rule peaks peakFactor 231 tt
 
 -- K(i) is from 1,020 to 2,000
 pub peakFactor-sized : (i : ℕ) → (1020 ≤ peakFactor i) × (peakFactor i ≤ 2000)

@@ -1,16 +1,14 @@
 -- The constant table of 31 numbers is document 01's sine, by one test that is computed over the whole table. Assumes nothing.
 use Prim.Native.Nat.{ℕ, _+_, _-_, _*_, _≤_, _<_}
 use mathlib.Core.Path.{_≡_}
-use mathlib.Core.Bool.{Bool}
 use mathlib.Core.List.{List, [], _∷_}
 use native.Mathlib.Omega.{arith}
 use native.Mathlib.Nat.{mul-le-mul}
-use lib.Dec.{eqb, eqb→eq}
 use lib.ListN.{getD}
 use Rattle.enclosure.specs.Exact.{rootOf, rootUp}
 use Rattle.elements.specs.Factors.{sineOf}
 use Rattle.elements.specs.laws.Factors.{sine-reaches, sine-least}
-use Rattle.elements.specs.laws.EachBelow.{below}
+use Rattle.elements.specs.laws.EachBelow.{table-rule}
 
 -- the table, for power factors from 0.70 to 1.00
 abbrev pub sines : List ℕ
@@ -19,13 +17,9 @@ sines =
     4147 ∷ 3920 ∷ 3676 ∷ 3412 ∷ 3123 ∷ 2800 ∷ 2432 ∷ 1990 ∷ 1411 ∷ 0 ∷ []
 
 -- ---- the rule
-right : ℕ → Bool
-unfolding sineOf rootUp rootOf
-right i = eqb (getD sines i 0) (sineOf (70 + i))
-
 pub sines-rule : (i : ℕ) → i < 31 → getD sines i 0 ≡ sineOf (70 + i)
-unfolding right
-sines-rule i h = eqb→eq (getD sines i 0) (sineOf (70 + i)) (below right 31 tt i h)
+unfolding sineOf rootUp rootOf
+sines-rule = table-rule sines (λ i. sineOf (70 + i)) 31 tt
 
 -- "the least s with s² ≥ 10⁸ − 10⁴·p²": of each entry, in these words
 pub record LeastSine (p s : ℕ) : Type 0 where

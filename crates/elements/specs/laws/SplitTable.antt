@@ -1,13 +1,11 @@
 -- The constant table of 201 numbers is document 01's f, by one test that is computed over the whole table. Assumes nothing.
 use Prim.Native.Nat.{ℕ, _<_}
 use mathlib.Core.Path.{_≡_}
-use mathlib.Core.Bool.{Bool}
 use mathlib.Core.List.{List, [], _∷_}
-use lib.Dec.{eqb, eqb→eq}
 use lib.ListN.{getD}
 use Rattle.enclosure.specs.Exact.{rootOf}
 use Rattle.elements.specs.Factors.{splitOf}
-use Rattle.elements.specs.laws.EachBelow.{below}
+use Rattle.elements.specs.laws.EachBelow.{table-rule}
 
 -- the table, for R/X from 0.00 to 2.00
 abbrev pub splits : List ℕ
@@ -27,10 +25,6 @@ splits =
     461934 ∷ 460048 ∷ 458176 ∷ 456316 ∷ 454470 ∷ 452636 ∷ 450816 ∷ 449008 ∷ 447213 ∷ []
 
 -- ---- the rule
-right : ℕ → Bool
-unfolding splitOf rootOf
-right ρ = eqb (getD splits ρ 0) (splitOf ρ)
-
 pub splits-rule : (ρ : ℕ) → ρ < 201 → getD splits ρ 0 ≡ splitOf ρ
-unfolding right
-splits-rule ρ h = eqb→eq (getD splits ρ 0) (splitOf ρ) (below right 201 tt ρ h)
+unfolding splitOf rootOf
+splits-rule = table-rule splits splitOf 201 tt
