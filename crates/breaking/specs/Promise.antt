@@ -8,7 +8,7 @@ use lib.Ieee.{Float, nan}
 use lib.ListN.{length, getD, drop}
 use Rattle.enclosure.specs.Exact.{ofNat}
 use Rattle.enclosure.specs.Fraction.{Fraction, Most, whole, SumAtMost, SumAtLeast}
-use Rattle.network.specs.SourceKinds.{isMachine, isGenerator}
+use Rattle.network.specs.SourceKinds.{isMachine, hasGenerator}
 use Rattle.network.specs.Network.{Network, sourceAt}
 use Rattle.network.specs.Grounds.{Call, run}
 use Rattle.network.specs.Demand.{Narrow}
@@ -29,14 +29,14 @@ pub record BreakingHolds (n : Network) (b delay : ℕ) (lent table : List Float)
   pub numbers : (j : ℕ) → j < length (n .sources) → (getD table (2 * j) nan ≡ ofNat (lower j)) × (getD table (2 * j + 1) nan ≡ ofNat (upper j)) × (lower j < 2 ^ 53) × (upper j < 2 ^ 53)
   pub figure-whole : (figure ≡ ofNat amperes) × (amperes < 2 ^ 53)
   -- "For each generator give whole bounds on its share .., and 0, 0 for other kinds"
-  pub shares : (j : ℕ) → j < length (n .sources) → isGenerator (sourceAt (n .sources) j) ≡ true → ShareHolds (shareSquareAt n b j) (lower j) (upper j)
-  pub others : (j : ℕ) → j < length (n .sources) → isGenerator (sourceAt (n .sources) j) ≡ false → (lower j ≡ 0) × (upper j ≡ 0)
+  pub shares : (j : ℕ) → j < length (n .sources) → hasGenerator (sourceAt (n .sources) j) ≡ true → ShareHolds (shareSquareAt n b j) (lower j) (upper j)
+  pub others : (j : ℕ) → j < length (n .sources) → hasGenerator (sourceAt (n .sources) j) ≡ false → (lower j ≡ 0) × (upper j ≡ 0)
   -- "numbers beyond the last source's are kept"
   pub beyond : (length table ≡ length lent) × (drop (2 * length (n .sources)) table ≡ drop (2 * length (n .sources)) lent)
   -- shares, q and the converters' part are fractions, and every machine has a share: no comparison holds because there is nothing to compare
   pub proper : (j : ℕ) → j < length (n .sources) → 0 < shareSquareAt n b j .under
   pub some : (j : ℕ) → j < length (n .sources) → isMachine (sourceAt (n .sources) j) ≡ true → 0 < shareSquareAt n b j .top
-  pub proper-q : (j : ℕ) → j < length (n .sources) → isGenerator (sourceAt (n .sources) j) ≡ true → 0 < qSquareAt n b j .under
+  pub proper-q : (j : ℕ) → j < length (n .sources) → hasGenerator (sourceAt (n .sources) j) ≡ true → 0 < qSquareAt n b j .under
   pub proper-converters : 0 < convertersPart n b .under
   -- "The breaking figure is never below that sum with exact shares and the stated table, nor above it by more than 3 % plus 4 A": it is at
   -- most 1.03 times the sum and 4 where the sum is at least (figure − 4)/1.03

@@ -5,8 +5,9 @@ use mathlib.Core.Bool.{cond, _&&_, Bool, false}
 use lib.Dec.{leb, ltb, eqb}
 use lib.Ieee.{Float, binary64, ofBits, add, mul, le}
 use Rattle.enclosure.specs.declared.Complex.{Complex}
-use Rattle.enclosure.specs.Doubles.{none, wholePoint, scaled, climb, upperOf, underRoot}
+use Rattle.enclosure.specs.Doubles.{none, wholePoint, added, scaled, climb, upperOf, underRoot}
 use Rattle.elements.specs.Factors.{factorC, sineOf, uxOf, splitOf, peakFactor}
+use Rattle.elements.specs.Impedance.{apart}
 use Rattle.elements.specs.BreakingFactor.{muOf}
 use Rattle.enclosure.specs.Exact.{ofNat}
 
@@ -35,6 +36,17 @@ unfoldable pub generatorBy : ℕ → ℕ → ℕ → ℕ → ℕ → ℕ → ℕ
 generatorBy tolerance Un Ur kVA xd ρ powerFactor =
     cond (leb xd 100000 && leb ρ 200)
     (scaled (factorC tolerance Un) (1000000000 + xd * sineOf (max powerFactor 70)) (scaled Un 1000 (scaled Ur kVA (wholePoint (xd * ρ) (xd * 100)))))
+    none
+
+-- A power station unit. High volts, Ur² and low² of the literal form cancel: c·Un²/(10·kVAT·(10⁹ + d·s)) times
+-- kVAT/kVA·xd·(ρ + j·100)/100 + (low/Ur)²·(uR + j·ux), d = |xd − ux|. Nothing where xd or uk is past its range; a power factor as of a
+-- generator
+unfoldable pub stationUnitBy : ℕ → ℕ → ℕ → ℕ → ℕ → ℕ → ℕ → ℕ → ℕ → ℕ → ℕ → Complex
+stationUnitBy tolerance Un Ur kVA xd ρ powerFactor low kVAT uk uR =
+    cond (leb xd 100000 && leb uk 30000)
+    (scaled (factorC tolerance Un) (1000000000 + apart xd (uxOf uk uR) * sineOf (max powerFactor 70))
+    (scaled Un 10 (scaled Un kVAT
+    (added (scaled kVAT kVA (scaled xd 100 (wholePoint ρ 100))) (scaled low Ur (scaled low Ur (wholePoint uR (uxOf uk uR))))))))
     none
 
 unfoldable pub converterBy : ℕ → ℕ → Complex

@@ -1,7 +1,7 @@
--- Document 01, "Element impedances in ohms": each as an exact point, drawn from the record's fields and nominal volts alone
--- and defined on all numbers. Assumes nothing.
-use Prim.Native.Nat.{ℕ, _+_, _*_}
-use Rattle.enclosure.specs.Exact.{Point, times}
+-- Document 01, "Element impedances in ohms", and document 02, order 5: each as an exact point, drawn from the record's fields and nominal
+-- volts alone and defined on all numbers. Assumes nothing.
+use Prim.Native.Nat.{ℕ, _+_, _-_, _*_}
+use Rattle.enclosure.specs.Exact.{Point, sum, times}
 use Rattle.elements.specs.Factors.{factorC, sineOf, uxOf, splitOf}
 
 -- "Line: (r + jx)·metres/(circuits·10⁶)."
@@ -13,10 +13,13 @@ line r x metres circuits = times metres (circuits * 1000000) (record { re = r; i
 abbrev pub correctT : ℕ → ℕ → Point → Point
 correctT c ux z = times (9500 * c) (1000000 + 6 * ux) z
 
+-- "(uR + j·ux)/100,000·UrOwn²/(1,000·kVA)": a transformer on the side of the rated volts Ur, without K_T
+abbrev pub plainTransformer : ℕ → ℕ → ℕ → ℕ → Point
+plainTransformer Ur kVA uk uR = times (Ur * Ur) (1000 * kVA) (record { re = uR; im = uxOf uk uR; den = 100000 })
+
 -- "Transformer, own side: K_T·(uR + j·ux)/100,000·UrOwn²/(1,000·kVA), .., c by the lower of the two nominal voltages."
 unfoldable pub transformer : ℕ → ℕ → ℕ → ℕ → ℕ → ℕ → Point
-transformer tolerance Ulower UrOwn kVA uk uR =
-    correctT (factorC tolerance Ulower) (uxOf uk uR) (times (UrOwn * UrOwn) (1000 * kVA) (record { re = uR; im = uxOf uk uR; den = 100000 }))
+transformer tolerance Ulower UrOwn kVA uk uR = correctT (factorC tolerance Ulower) (uxOf uk uR) (plainTransformer UrOwn kVA uk uR)
 
 -- R/Z and X/Z by f: "X = Z·f/10⁶, R = X·ρ/100"
 unfoldable pub split : ℕ → Point
@@ -31,14 +34,35 @@ feeder tolerance Un kVA ρ = times (factorC tolerance Un * (Un * Un)) (100 * (10
 abbrev pub correctG : ℕ → ℕ → ℕ → ℕ → ℕ → Point → Point
 correctG c Un Ur xd s z = times (Un * (10000000 * c)) (Ur * (1000000000 + xd * s)) z
 
--- "Generator: X = K_G·xd/100,000·Ur²/(1,000·kVA), R = X·ρ/100": (ρ + j·100)/100·xd/10⁵ is (xd·ρ + j·xd·100)/10⁷
+-- "X = .. xd/100,000·Ur²/(1,000·kVA), R = X·ρ/100": a generator without K_G; (ρ + j·100)/100·xd/10⁵ is (xd·ρ + j·xd·100)/10⁷
+abbrev pub plainGenerator : ℕ → ℕ → ℕ → ℕ → Point
+plainGenerator Ur kVA xd ρ = times (Ur * Ur) (1000 * kVA) (record { re = xd * ρ; im = xd * 100; den = 10000000 })
+
+-- "Generator: X = K_G·xd/100,000·Ur²/(1,000·kVA), R = X·ρ/100"
 unfoldable pub generator : ℕ → ℕ → ℕ → ℕ → ℕ → ℕ → ℕ → Point
-generator tolerance Un Ur kVA xd ρ powerFactor =
-    correctG (factorC tolerance Un) Un Ur xd (sineOf powerFactor) (times (Ur * Ur) (1000 * kVA) (record { re = xd * ρ; im = xd * 100; den = 10000000 }))
+generator tolerance Un Ur kVA xd ρ powerFactor = correctG (factorC tolerance Un) Un Ur xd (sineOf powerFactor) (plainGenerator Ur kVA xd ρ)
 
 -- "Motor: Z = (10/ratio)·Ur²/(1,000·kVA), split by f."
 unfoldable pub motor : ℕ → ℕ → ℕ → ℕ → Point
 motor Ur kVA ratio ρ = times (10 * (Ur * Ur)) (ratio * (1000 * kVA)) (split ρ)
+
+-- ---- document 02, order 5: a power station unit, seen from the high-voltage side of its transformer
+-- |a − b|
+abbrev pub apart : ℕ → ℕ → ℕ
+apart a b = a - b + (b - a)
+
+-- "K_S = Un²/Ur²·low²/high²·c/(1 + |xd − xT|·sin), c and Un of the bus, xd as a fraction, xT = ux/100,000", with c in hundredths, the sine
+-- s in ten-thousandths, and d = |xd − ux|, both in 10⁻⁵:
+-- 1 + d/10⁵·s/10⁴ = (10⁹ + d·s)/10⁹, so K_S = Un²·low²·c·10⁹/(Ur²·high²·100·(10⁹ + d·s)) = Un²·low²·(10⁷·c)/(Ur²·high²·(10⁹ + d·s))
+abbrev pub correctS : ℕ → ℕ → ℕ → ℕ → ℕ → ℕ → ℕ → Point → Point
+correctS c Un Ur low high d s z = times (Un * Un * (low * low) * (10000000 * c)) (Ur * Ur * (high * high) * (1000000000 + d * s)) z
+
+-- "Z = K_S·(t²·Z_G + Z_T), t high over low rated volts, Z_G the generator's impedance without K_G, Z_T the transformer's on its high side
+-- without K_T"
+unfoldable pub stationUnit : ℕ → ℕ → ℕ → ℕ → ℕ → ℕ → ℕ → ℕ → ℕ → ℕ → ℕ → ℕ → Point
+stationUnit tolerance Un Ur kVA xd ρ powerFactor low high kVAT uk uR =
+    correctS (factorC tolerance Un) Un Ur low high (apart xd (uxOf uk uR)) (sineOf powerFactor)
+    (sum (times (high * high) (low * low) (plainGenerator Ur kVA xd ρ)) (plainTransformer high kVAT uk uR))
 
 -- "the sum of rated current·k": one converter's amperes, on the real axis, from tenths of an ampere and hundredths
 unfoldable pub converter : ℕ → ℕ → Point

@@ -5,11 +5,13 @@ use crate::factors::sine;
 use crate::factors::split_factor;
 use crate::factors::voltage_factor;
 use enclosure::Complex;
+use enclosure::add;
 use enclosure::nothing;
 use enclosure::of;
 use enclosure::scale;
 ghost use mathlib.Core.Path.{_≡_};
-ghost use Rattle.elements.specs.Doubles.{lineBy, transformerBy, splitBy, feederBy, motorBy, generatorBy, converterBy};
+ghost use Rattle.elements.specs.Impedance.{apart};
+ghost use Rattle.elements.specs.Doubles.{lineBy, transformerBy, splitBy, feederBy, motorBy, generatorBy, stationUnitBy, converterBy};
 
 // r and x in micro-ohms per metre.
 pub fn line(r: u32, x: u32, metres: u32, circuits: u32) -> Complex
@@ -76,6 +78,43 @@ pub fn generator(
     let z = scale(scale(of(xd * rho, xd * 100), rated, kva), volts, 1_000);
     let c = voltage_factor(tolerance, volts);
     scale(z, c, 1_000_000_000 + xd * sine(power_factor))
+}
+
+// The difference by size.
+fn difference(a: u32, b: u32) -> u32
+    ensures { λ r. ⌜ r ≡ apart a b ⌝ }
+{
+    if a < b { b - a } else { a - b }
+}
+
+// A generator and its own transformer, seen at a bus of these nominal volts on the transformer's high side. The high volts cancel.
+pub fn station_unit(
+    tolerance: u32,
+    volts: u32,
+    rated: u32,
+    kva: u32,
+    xd: u32,
+    rho: u32,
+    power_factor: u32,
+    low: u32,
+    transformer_kva: u32,
+    uk: u32,
+    ur: u32,
+) -> Complex
+    ensures { λ z. ⌜ z ≡ stationUnitBy tolerance volts rated kva xd rho «power_factor» low «transformer_kva» uk ur ⌝ }
+{
+    if 100_000 < xd {
+        return nothing();
+    }
+    if 30_000 < uk {
+        return nothing();
+    }
+    let ux = reactance(uk, ur);
+    let generator = scale(scale(of(rho, 100), xd, 100), transformer_kva, kva);
+    let transformer = scale(scale(of(ur, ux), low, rated), low, rated);
+    let z = scale(scale(add(generator, transformer), volts, transformer_kva), volts, 10);
+    let c = voltage_factor(tolerance, volts);
+    scale(z, c, 1_000_000_000 + difference(xd, ux) * sine(power_factor))
 }
 
 // A converter's current in amperes, on the real axis.

@@ -8,7 +8,7 @@ use lib.ListN.{length}
 use Rattle.network.specs.declared.study.Bus.{Bus}
 use Rattle.network.specs.declared.study.Source.{Source}
 use Rattle.network.specs.Records.{inRange, toleranceOk, voltsOk, ratingOk, branchOk, ratedOk}
-use Rattle.network.specs.SourceKinds.{isFeeder, sourceKindOk, fieldsOk, isRated, machineVolts}
+use Rattle.network.specs.SourceKinds.{isFeeder, isUnit, sourceKindOk, fieldsOk, isRated, machineVolts}
 use Rattle.network.specs.Network.{Network, openOf, withBus, withSource, closedAs, busAt, parentRecord, depthOf, transformersOf}
 use Rattle.tree.specs.Limits.{Limits, here, maxBranches, maxTransformers}
 
@@ -106,17 +106,22 @@ afterBus = afterBusIn here
 abbrev pub machineVoltsOk : Bus → Source → Bool
 machineVoltsOk b p = not (isRated p) || ratedOk (machineVolts p) (b .volts)
 
+-- "32 when generator volts leave 9/10 to 11/10 of the low volts", of a unit (document 02, order 5)
+abbrev pub unitVoltsOk : Source → Bool
+unitVoltsOk p = not (isUnit p) || ratedOk (p .f1) (p .low)
+
 -- "14 first source not a feeder, feeder elsewhere than bus 0, or a second one."
 abbrev pub feederPlaceOk : ℕ → Source → Bool
 feederPlaceOk j p = atZero j (isFeeder p && eqb (p .bus) 0) (not (isFeeder p))
 
--- the grounds in the input for the record of the source at place j over a list of buses
+-- the grounds in the input for the record of the source at place j over a list of buses; 32 is "tried between 13 and 14"
 abbrev pub sourceGrounds : List Bus → ℕ → Source → List Ground
 sourceGrounds l j p =
     on (sourceKindOk p) 10
     ∷ on (ltb (p .bus) (length l)) 11
     ∷ on (fieldsOk p) 12
     ∷ on (machineVoltsOk (busAt l (p .bus)) p) 13
+    ∷ on (unitVoltsOk p) 32
     ∷ on (feederPlaceOk j p) 14
     ∷ []
 

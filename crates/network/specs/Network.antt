@@ -53,7 +53,7 @@ abbrev pub blank : Bus
 blank = record { parent = 0; volts = 0; kind = 0; f1 = 0; f2 = 0; f3 = 0; f4 = 0; f5 = 0; rating = 0; «peak_rating» = 0 }
 
 abbrev pub blankSource : Source
-blankSource = record { kind = 0; bus = 0; f1 = 0; f2 = 0; f3 = 0; f4 = 0; f5 = 0 }
+blankSource = record { kind = 0; bus = 0; f1 = 0; f2 = 0; f3 = 0; f4 = 0; f5 = 0; low = 0; high = 0; «transformer_kva» = 0; uk = 0; ur = 0 }
 
 -- "Buses are numbered from 0 as accepted": the record of bus i, and that of its parent
 abbrev pub busAt : List Bus → ℕ → Bus

@@ -2,7 +2,7 @@
 use Prim.Native.Nat.{ℕ}
 use Rattle.enclosure.specs.declared.Complex.{Complex}
 use Rattle.enclosure.specs.Doubles.{none, inverted}
-use Rattle.elements.specs.Doubles.{feederBy, generatorBy, motorBy, converterBy}
+use Rattle.elements.specs.Doubles.{feederBy, generatorBy, motorBy, stationUnitBy, converterBy}
 use Rattle.network.specs.declared.study.Source.{Source}
 use Rattle.network.specs.SourceKinds.{byKind}
 
@@ -16,10 +16,14 @@ generatorImpedanceBy tolerance Un p = generatorBy tolerance Un (p .f1) (p .f2) (
 abbrev pub motorImpedanceBy : Source → Complex
 motorImpedanceBy p = motorBy (p .f1) (p .f2) (p .f3) (p .f4)
 
+abbrev pub unitImpedanceBy : ℕ → ℕ → Source → Complex
+unitImpedanceBy tolerance Un p = stationUnitBy tolerance Un (p .f1) (p .f2) (p .f3) (p .f4) (p .f5) (p .low) (p .«transformer_kva») (p .uk) (p .ur)
+
 -- a machine's admittance
 unfoldable pub admittanceBy : ℕ → ℕ → Source → Complex
 admittanceBy tolerance Un p =
-    byKind p (inverted (feederImpedanceBy tolerance Un p)) (inverted (generatorImpedanceBy tolerance Un p)) (inverted (motorImpedanceBy p)) none
+    byKind p (inverted (feederImpedanceBy tolerance Un p)) (inverted (generatorImpedanceBy tolerance Un p)) (inverted (motorImpedanceBy p))
+    (inverted (unitImpedanceBy tolerance Un p)) none
 
 -- a converter's current
 abbrev pub suppliedBy : Source → Complex

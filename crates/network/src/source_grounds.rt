@@ -6,12 +6,13 @@ ghost use lib.Dec.{ltb};
 ghost use lib.ListN.{length};
 ghost use Rattle.network.specs.declared.study.Bus.{Bus};
 ghost use Rattle.network.specs.Network.{busAt};
-ghost use Rattle.network.specs.Grounds.{machineVoltsOk, feederPlaceOk, sourceRecordNumber};
+ghost use Rattle.network.specs.Grounds.{machineVoltsOk, unitVoltsOk, feederPlaceOk, sourceRecordNumber};
 use crate::checks::rated_ok;
 use crate::checks::unless;
 use crate::source_kinds::fields_ok;
 use crate::source_kinds::is_feeder;
 use crate::source_kinds::is_rated;
+use crate::source_kinds::is_unit;
 use crate::source_kinds::kind_ok;
 use crate::source_kinds::machine_volts;
 use crate::study::Bus;
@@ -22,6 +23,13 @@ fn machine_volts_ok(b: Bus, p: Source) -> bool
     ensures { λ r. ⌜ r ≡ machineVoltsOk b p ⌝ }
 {
     !is_rated(p) | rated_ok(machine_volts(p), b.volts)
+}
+
+// Ground 32: the generator's rated volts of a unit, against those of its transformer's low side.
+fn unit_volts_ok(p: Source) -> bool
+    ensures { λ r. ⌜ r ≡ unitVoltsOk p ⌝ }
+{
+    !is_unit(p) | rated_ok(p.f1, p.low)
 }
 
 // Ground 14: the first source is a feeder at bus 0, and no other is a feeder.
@@ -40,7 +48,12 @@ pub(crate) fn source_record_number(there: bool, b: Bus, j: usize, p: Source) -> 
     let kind = kind_ok(p);
     let fields = fields_ok(p);
     let volts = machine_volts_ok(b, p);
+    let terminals = unit_volts_ok(p);
     let place = feeder_place_ok(j, p);
-    let rest = unless(fields, 12, unless(volts, 13, unless(place, 14, 0)));
+    let rest = unless(
+        fields,
+        12,
+        unless(volts, 13, unless(terminals, 32, unless(place, 14, 0))),
+    );
     unless(kind, 10, unless(there, 11, rest))
 }

@@ -2,13 +2,14 @@
 // here.
 ghost use mathlib.Core.Path.{_≡_};
 ghost use Rattle.network.specs.Records.{all};
-ghost use Rattle.network.specs.SourceKinds.{isFeeder, isConverter, sourceKindOk, feederTests, generatorTests, motorTests, converterTests, fieldsOk, isRated, machineVolts};
-ghost use Rattle.network.specs.RoundedSourceKinds.{admittanceBy, suppliedBy};
+ghost use Rattle.network.specs.SourceKinds.{isFeeder, isConverter, isUnit, sourceKindOk, noTransformer, feederTests, generatorTests, motorTests, converterTests, unitTests, fieldsOk, isRated, machineVolts};
+ghost use Rattle.network.specs.RoundedSourceKinds.{unitImpedanceBy, admittanceBy, suppliedBy};
 use crate::study::Source;
 use elements::impedances::converter;
 use elements::impedances::feeder;
 use elements::impedances::generator;
 use elements::impedances::motor;
+use elements::impedances::station_unit;
 use enclosure::Complex;
 use enclosure::inverse;
 use enclosure::nothing;
@@ -25,32 +26,50 @@ pub(crate) fn is_converter(p: Source) -> bool
     p.kind == 4
 }
 
-// Whether it is a machine that has rated volts: a generator or a motor.
+pub(crate) fn is_unit(p: Source) -> bool
+    ensures { λ r. ⌜ r ≡ isUnit p ⌝ }
+{
+    p.kind == 5
+}
+
+// Whether it is a machine that has rated volts at its bus: a generator, a motor or a unit.
 pub(crate) fn is_rated(p: Source) -> bool
     ensures { λ r. ⌜ r ≡ isRated p ⌝ }
 {
-    (p.kind == 2) | (p.kind == 3)
+    (p.kind == 2) | (p.kind == 3) | (p.kind == 5)
 }
 
-// The rated volts of such a machine.
+// The rated volts of such a machine at its bus; of a unit those of its transformer's high side.
 pub(crate) fn machine_volts(p: Source) -> u32
     ensures { λ r. ⌜ r ≡ machineVolts p ⌝ }
 {
-    p.f1
+    if p.kind == 5 { p.high } else { p.f1 }
 }
 
 // Ground 10: source kind.
 pub(crate) fn kind_ok(p: Source) -> bool
     ensures { λ r. ⌜ r ≡ sourceKindOk p ⌝ }
 {
-    (1 <= p.kind) & (p.kind <= 4)
+    (1 <= p.kind) & (p.kind <= 5)
+}
+
+// Ground 12 of any kind but a unit: no field of a transformer.
+fn no_transformer(p: Source) -> bool
+    ensures { λ r. ⌜ r ≡ noTransformer p ⌝ }
+{
+    (p.low == 0) & (p.high == 0) & (p.transformer_kva == 0) & (p.uk == 0) & (p.ur == 0)
 }
 
 // Ground 12 of a feeder: kVA, R/X, 0, 0, 0.
 fn feeder_ok(p: Source) -> bool
     ensures { λ r. ⌜ r ≡ all (feederTests p) ⌝ }
 {
-    ((1000 <= p.f1) & (p.f1 <= 100000000)) & (p.f2 <= 200) & (p.f3 == 0) & (p.f4 == 0) & (p.f5 == 0)
+    ((1000 <= p.f1) & (p.f1 <= 100000000))
+        & (p.f2 <= 200)
+        & (p.f3 == 0)
+        & (p.f4 == 0)
+        & (p.f5 == 0)
+        & no_transformer(p)
 }
 
 // Ground 12 of a generator: kVA, xd, R/X, power factor. Its rated volts have ground 13.
@@ -61,13 +80,18 @@ fn generator_ok(p: Source) -> bool
         & ((1000 <= p.f3) & (p.f3 <= 100000))
         & (p.f4 <= 200)
         & ((70 <= p.f5) & (p.f5 <= 100))
+        & no_transformer(p)
 }
 
 // Ground 12 of a motor: kVA, starting ratio, R/X, 0. Its rated volts have ground 13.
 fn motor_ok(p: Source) -> bool
     ensures { λ r. ⌜ r ≡ all (motorTests p) ⌝ }
 {
-    ((1 <= p.f2) & (p.f2 <= 100000)) & ((10 <= p.f3) & (p.f3 <= 100)) & (p.f4 <= 200) & (p.f5 == 0)
+    ((1 <= p.f2) & (p.f2 <= 100000))
+        & ((10 <= p.f3) & (p.f3 <= 100))
+        & (p.f4 <= 200)
+        & (p.f5 == 0)
+        & no_transformer(p)
 }
 
 // Ground 12 of a converter: rated current, k, 0, 0, 0.
@@ -79,9 +103,25 @@ fn converter_ok(p: Source) -> bool
         & (p.f3 == 0)
         & (p.f4 == 0)
         & (p.f5 == 0)
+        & no_transformer(p)
 }
 
-// Ground 12: the five fields, by the kind.
+// Ground 12 of a unit: kVA, xd, R/X and power factor of its generator; low volts, kVA, uk and uR of its transformer. Generator volts and
+// high volts have grounds 32 and 13.
+fn unit_ok(p: Source) -> bool
+    ensures { λ r. ⌜ r ≡ all (unitTests p) ⌝ }
+{
+    ((10 <= p.f2) & (p.f2 <= 1000000))
+        & ((1000 <= p.f3) & (p.f3 <= 100000))
+        & (p.f4 <= 200)
+        & ((70 <= p.f5) & (p.f5 <= 100))
+        & ((90 <= p.low) & (p.low <= 462000))
+        & ((10 <= p.transformer_kva) & (p.transformer_kva <= 1000000))
+        & ((100 <= p.uk) & (p.uk <= 30000))
+        & (p.ur < p.uk)
+}
+
+// Ground 12: the fields, by the kind.
 pub(crate) fn fields_ok(p: Source) -> bool
     ensures { λ r. ⌜ r ≡ fieldsOk p ⌝ }
 {
@@ -90,8 +130,28 @@ pub(crate) fn fields_ok(p: Source) -> bool
         1 => feeder_ok(p),
         2 => generator_ok(p),
         3 => motor_ok(p),
+        5 => unit_ok(p),
         _ => converter_ok(p),
     }
+}
+
+// The impedance of a unit at a bus of these nominal volts.
+fn unit_impedance(tolerance: u32, volts: u32, p: Source) -> Complex
+    ensures { λ z. ⌜ z ≡ unitImpedanceBy tolerance volts p ⌝ }
+{
+    station_unit(
+        tolerance,
+        volts,
+        p.f1,
+        p.f2,
+        p.f3,
+        p.f4,
+        p.f5,
+        p.low,
+        p.transformer_kva,
+        p.uk,
+        p.ur,
+    )
 }
 
 // The admittance of a machine at a bus of these nominal volts.
@@ -103,6 +163,7 @@ pub fn machine_admittance(tolerance: u32, volts: u32, p: Source) -> Complex
         1 => inverse(feeder(tolerance, volts, p.f1, p.f2)),
         2 => inverse(generator(tolerance, volts, p.f1, p.f2, p.f3, p.f4, p.f5)),
         3 => inverse(motor(p.f1, p.f2, p.f3, p.f4)),
+        5 => inverse(unit_impedance(tolerance, volts, p)),
         _ => nothing(),
     }
 }

@@ -27,7 +27,9 @@ pub struct Bus {
     pub peak_rating: u32,
 }
 
-// A source at a bus: feeder (kind 1), generator (2), motor (3) or converter (4), with five fields by its kind.
+// A source at a bus: feeder (kind 1), generator (2), motor (3), converter (4) or power station unit (5), with five fields by its kind. The
+// transformer of a unit, whose five fields are those of its generator, has five more, which are 0 of any other kind: rated volts on its low
+// and on its high side, kVA, uk and uR.
 pub struct Source {
     pub kind: u32,
     pub bus: u32,
@@ -36,6 +38,11 @@ pub struct Source {
     pub f3: u32,
     pub f4: u32,
     pub f5: u32,
+    pub low: u32,
+    pub high: u32,
+    pub transformer_kva: u32,
+    pub uk: u32,
+    pub ur: u32,
 }
 
 pub struct Study {
@@ -75,6 +82,11 @@ fn blank_source() -> Source
         f3: 0,
         f4: 0,
         f5: 0,
+        low: 0,
+        high: 0,
+        transformer_kva: 0,
+        uk: 0,
+        ur: 0,
     }
 }
 

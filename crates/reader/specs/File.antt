@@ -21,22 +21,26 @@ use Rattle.reader.specs.declared.Row.the-variants.{Start, WithBus, WithS
 abbrev pub maxBytes : ℕ
 maxBytes = 65536
 
--- "`B,` with ten fields or `P,` with seven"; and the most that a row of any kind has
+-- "`B,` with ten fields or `P,` with seven"; "Source records become twelve fields" (document 02, order 5); and the most that a row of any
+-- kind has
 abbrev pub busFields : ℕ
 busFields = 10
 
 abbrev pub sourceFields : ℕ
-sourceFields = 7
+sourceFields = 12
+
+abbrev pub shortSourceFields : ℕ
+shortSourceFields = 7
 
 abbrev pub mostFields : ℕ
 mostFields = max busFields sourceFields
 
--- how many numbers make a bus row, and how many a source row
+-- how many numbers make a bus row, and how many a source row: "a P row of seven is still read as if filled with zeros"
 abbrev pub busCountOk : ℕ → Bool
 busCountOk count = eqb count busFields
 
 abbrev pub sourceCountOk : ℕ → Bool
-sourceCountOk count = eqb count sourceFields
+sourceCountOk count = eqb count shortSourceFields || eqb count sourceFields
 
 -- the bytes CR, LF, comma, 0, 9, S, B and P
 abbrev pub cr : ℕ
@@ -119,8 +123,8 @@ amounts [] = []
 amounts (f ∷ fs) = amount (numberOf f) ∷ amounts fs
 
 -- ---- records
--- "Bus record, ten fields", in their order. A number that the list does not have would be 0, here and in a source record; a row that has
--- too few numbers gives no record (`recordOf`)
+-- "Bus record, ten fields", in their order. A number that the list does not have would be 0; a row that has too few numbers gives no
+-- record (`recordOf`)
 abbrev pub busOf : List ℕ → Bus
 busOf v = record {
   parent = getD v 0 0;
@@ -135,7 +139,7 @@ busOf v = record {
   «peak_rating» = getD v 9 0;
 }
 
--- "Source record, seven fields", in their order
+-- "Source record, seven fields", and order 5's five, in their order. A number that the list does not have is 0: "as if filled with zeros"
 abbrev pub sourceOf : List ℕ → Source
 sourceOf v = record {
   kind = getD v 0 0;
@@ -145,9 +149,14 @@ sourceOf v = record {
   f3 = getD v 4 0;
   f4 = getD v 5 0;
   f5 = getD v 6 0;
+  low = getD v 7 0;
+  high = getD v 8 0;
+  «transformer_kva» = getD v 9 0;
+  uk = getD v 10 0;
+  ur = getD v 11 0;
 }
 
--- "Row 1 is `S,tolerance`; then `B,` with ten fields or `P,` with seven, in any mixture.": by whether the row is the first, its
+-- "Row 1 is `S,tolerance`; then `B,` with ten fields or `P,` with seven, in any mixture.", or with twelve: by whether the row is the first, its
 -- letter and its numbers
 unfoldable pub recordOf : Bool → ℕ → List ℕ → Row
 recordOf true letter v = cond (eqb letter letterS && eqb (length v) 1) (Start (getD v 0 0)) Malformed

@@ -9,6 +9,7 @@ use crate::BUS_FIELDS;
 use crate::MOST_FIELDS;
 use crate::Numbers;
 use crate::Row;
+use crate::SHORT_SOURCE_FIELDS;
 use crate::SOURCE_FIELDS;
 use crate::fields::numbers_of;
 use network::study::Bus;
@@ -52,7 +53,7 @@ pub fn bus_count_ok(count: usize) -> bool
 pub fn source_count_ok(count: usize) -> bool
     ensures { λ r. ⌜ r ≡ sourceCountOk count ⌝ }
 {
-    count == SOURCE_FIELDS
+    (count == SHORT_SOURCE_FIELDS) | (count == SOURCE_FIELDS)
 }
 
 // The numbers of a row as a bus record, in its fields' order.
@@ -73,7 +74,7 @@ pub fn bus_of(v: [u32; MOST_FIELDS]) -> Bus
     }
 }
 
-// The first numbers of a row as a source record, in its fields' order.
+// The numbers of a row as a source record, in its fields' order.
 pub fn source_of(v: [u32; MOST_FIELDS]) -> Source
     ensures { λ r. ⌜ r ≡ sourceOf v ⌝ }
 {
@@ -85,6 +86,11 @@ pub fn source_of(v: [u32; MOST_FIELDS]) -> Source
         f3: v[4],
         f4: v[5],
         f5: v[6],
+        low: v[7],
+        high: v[8],
+        transformer_kva: v[9],
+        uk: v[10],
+        ur: v[11],
     }
 }
 
