@@ -1,5 +1,5 @@
 -- How large the factors can be. Assumes nothing.
-use Prim.Native.Nat.{ℕ, _+_, _*_, _≤_, _<_}
+use Prim.Native.Nat.{ℕ, _+_, _-_, _*_, _≤_, _<_}
 use mathlib.Core.Path.{refl}
 use mathlib.Core.Bool.{Bool, true, false, cond}
 use mathlib.Core.List.{[], _∷_}
@@ -8,8 +8,9 @@ use native.Mathlib.Nat.{mul-le-mul}
 use lib.Dec.{leb, eqb, lit≤}
 use Rattle.algebra.specs.Reading.{from, read}
 use Rattle.enclosure.specs.laws.Root.{root-le}
-use Rattle.elements.specs.Factors.{factorC, sineOf, splitOf}
-use Rattle.elements.specs.laws.Factors.{sine-most, split-fits, split-most}
+use Rattle.elements.specs.Factors.{factorC, sineOf, uxOf, splitOf}
+use Rattle.elements.specs.Impedance.{apart}
+use Rattle.elements.specs.laws.Factors.{sine-most, ux-most, split-fits, split-most}
 
 -- R and X of an impedance of 10⁸ are at most 10⁸ each
 pub split-re-most : (ρ : ℕ) → splitOf ρ * ρ ≤ 100000000
@@ -33,3 +34,10 @@ factorC-sized tolerance volts = go (leb volts 1000) (eqb tolerance 6)
 -- xd·sin, in 10⁹
 pub saturation-most : (xd p : ℕ) → xd ≤ 100000 → xd * sineOf p ≤ 1000000000
 saturation-most xd p h = mul-le-mul h (sine-most p)
+
+-- the same of a unit, |xd − ux|·sin; |xd − ux| is at most the larger of the two
+apart-most : (a b k : ℕ) → a ≤ k → b ≤ k → apart a b ≤ k
+apart-most a b k h l = omega arith
+
+pub unit-saturation-most : (xd uk uR p : ℕ) → xd ≤ 100000 → uk ≤ 30000 → apart xd (uxOf uk uR) * sineOf p ≤ 1000000000
+unit-saturation-most xd uk uR p h k = mul-le-mul (apart-most xd (uxOf uk uR) 100000 h (omega (arith, ux-most uk uR))) (sine-most p)

@@ -7,19 +7,19 @@ use native.Mathlib.Omega.{arith}
 use native.Mathlib.Nat.{mul-le-mul, mul-pos, max-eq-left}
 use borrow.Author.Tests.{le-leb}
 use Rattle.algebra.specs.Reading.{identity, read}
-use Rattle.enclosure.specs.Exact.{Point, times, inverse}
+use Rattle.enclosure.specs.Exact.{Point, sum, times, inverse}
 use Rattle.enclosure.specs.laws.Nearness.{NearTo, Same, near-same}
 use Rattle.enclosure.specs.declared.Complex.{Complex}
 use Rattle.enclosure.specs.laws.StepErrors.{parts}
-use Rattle.enclosure.specs.Doubles.{wholePoint, scaled, inverted}
+use Rattle.enclosure.specs.Doubles.{wholePoint, added, scaled, inverted}
 use Rattle.enclosure.specs.laws.F64Errors.{value}
 use Rattle.enclosure.specs.laws.F64Range.{Good, Factor, f64-rules}
 use Rattle.enclosure.specs.laws.ElementStart.{whole-near}
 use Rattle.elements.specs.Factors.{factorC, sineOf, uxOf, splitOf}
 use Rattle.elements.specs.laws.Factors.{ux-most}
-use Rattle.elements.specs.laws.FactorSizes.{split-re-most, split-im-most, factorC-sized, saturation-most}
-use Rattle.elements.specs.Impedance.{line, transformer, split, feeder, motor, generator, converter}
-use Rattle.elements.specs.Doubles.{lineBy, transformerBy, splitBy, feederBy, motorBy, generatorBy, converterBy}
+use Rattle.elements.specs.laws.FactorSizes.{split-re-most, split-im-most, factorC-sized, saturation-most, unit-saturation-most}
+use Rattle.elements.specs.Impedance.{line, transformer, split, feeder, motor, generator, apart, correctS, plainGenerator, plainTransformer, stationUnit, converter}
+use Rattle.elements.specs.Doubles.{lineBy, transformerBy, splitBy, feederBy, motorBy, generatorBy, stationUnitBy, converterBy}
 
 -- z is within k parts in 2 ^ 53 of the exact x, and of a size that calculation can go on from
 abbrev pub Calculated : ℕ → Point → Complex → Type 0
@@ -31,6 +31,10 @@ start = whole-near
 
 by : (k p q : ℕ) (x : Point) (z : Complex) → k ≤ 50 → Factor p → Factor q → Calculated k x z → Calculated (k + 8) (times p q x) (scaled p q z)
 by k p q x z l hp hq h = f64-rules 0 (omega arith) .near-scale k p q x z hp hq l h
+
+-- the sum of two
+both : (k : ℕ) (x x′ : Point) (z z′ : Complex) → k ≤ 50 → Calculated k x z → Calculated k x′ z′ → Calculated (k + 4) (sum x x′) (added z z′)
+both k x x′ z z′ l h h′ = f64-rules 0 (omega arith) .near-add k x x′ z z′ l h h′
 
 -- the same point in another form
 equal : (k : ℕ) (x y : Point) (z : Complex) → 0 < y .den → Same x y → Calculated k x z → Calculated k y z
@@ -139,3 +143,58 @@ generator-near tolerance Un Ur kVA xd ρ powerFactor hx hρ hp hn hr hv =
         (by 16 c (1000000000 + s) _ _ (omega arith) (omega arith, omega arith) (omega arith, omega arith)
         (by 8 Un 1000 _ _ (omega arith) hn (omega arith, omega arith)
         (by 0 Ur kVA _ _ (omega arith) hr hv (start (xd * ρ) (xd * 100) (omega (arith, mul-le-mul hx hρ)) (omega arith)))))
+
+-- ---- a power station unit: t² and K_S cancel the high volts, and of the low volts and the generator's the transformer's part alone keeps a
+-- ratio. D is |xd − ux|·s
+module _ (c D Un Ur kVA xd ρ low kVAT uR ux : ℕ) where
+  abbrev pub reducedUnit : Point
+  reducedUnit =
+      times c (1000000000 + D) (times Un 10 (times Un kVAT
+      (sum (times kVAT kVA (times xd 100 (record { re = ρ; im = 100; den = 1 }))) (times low Ur (times low Ur (record { re = uR; im = ux; den = 1 }))))))
+
+  -- one part of it, p being ρ or 100 and u uR or ux, over the literal form's
+  same-part : (high p u : ℕ)
+      → (p * xd * kVAT * (1 * Ur * Ur) + u * low * low * (1 * 100 * kVA)) * Un * Un * c
+      * (10000000 * (1000 * kVA) * (low * low) * (100000 * (1000 * kVAT)) * (Ur * Ur * (high * high) * (1000000000 + D)))
+      ≡ (xd * p * (Ur * Ur) * (high * high) * (100000 * (1000 * kVAT)) + u * (high * high) * (10000000 * (1000 * kVA) * (low * low))) * (Un * Un * (low * low) * (10000000 * c))
+      * (1 * 100 * kVA * (1 * Ur * Ur) * kVAT * 10 * (1000000000 + D))
+  same-part high p u = identity (c ∷ D ∷ Un ∷ Ur ∷ kVA ∷ xd ∷ low ∷ kVAT ∷ high ∷ p ∷ u ∷ []) (search read depth 40 fits 20000) refl
+
+-- THE LITERAL FORM AND THE ONE THAT IS CALCULATED ARE THE SAME
+pub unit-same : (tolerance Un Ur kVA xd ρ powerFactor low high kVAT uk uR : ℕ)
+    → Same (reducedUnit (factorC tolerance Un) (apart xd (uxOf uk uR) * sineOf powerFactor) Un Ur kVA xd ρ low kVAT uR (uxOf uk uR))
+    (stationUnit tolerance Un Ur kVA xd ρ powerFactor low high kVAT uk uR)
+unfolding stationUnit
+unit-same tolerance Un Ur kVA xd ρ powerFactor low high kVAT uk uR =
+    go (factorC tolerance Un) (apart xd (uxOf uk uR)) (sineOf powerFactor) (uxOf uk uR)
+  where
+    go : (c d s ux : ℕ) → Same (reducedUnit c (d * s) Un Ur kVA xd ρ low kVAT uR ux)
+        (correctS c Un Ur low high d s (sum (times (high * high) (low * low) (plainGenerator Ur kVA xd ρ)) (times (high * high) (1000 * kVAT) (record { re = uR; im = ux; den = 100000 }))))
+    go c d s ux = record { re = same-part c (d * s) Un Ur kVA xd ρ low kVAT uR ux high ρ uR; im = same-part c (d * s) Un Ur kVA xd ρ low kVAT uR ux high 100 ux }
+
+pub unit-proper : (tolerance Un Ur kVA xd ρ powerFactor low high kVAT uk uR : ℕ) → 0 < Ur → 0 < kVA → 0 < low → 0 < high → 0 < kVAT
+    → 0 < stationUnit tolerance Un Ur kVA xd ρ powerFactor low high kVAT uk uR .den
+unfolding stationUnit
+unit-proper tolerance Un Ur kVA xd ρ powerFactor low high kVAT uk uR r v l h t =
+    mul-pos (mul-pos (mul-pos (mul-pos (omega arith) (mul-pos (omega arith) v)) (mul-pos l l)) (mul-pos (omega arith) (mul-pos (omega arith) t)))
+    (mul-pos (mul-pos (mul-pos r r) (mul-pos h h)) (omega arith))
+
+pub unit-near : (tolerance Un Ur kVA xd ρ powerFactor low high kVAT uk uR : ℕ) → xd ≤ 100000 → uk ≤ 30000 → 70 ≤ powerFactor → ρ < 2 ^ 32 → uR < 2 ^ 32
+    → Factor Un → Factor Ur → Factor kVA → Factor xd → Factor low → Factor high → Factor kVAT
+    → Calculated 44 (stationUnit tolerance Un Ur kVA xd ρ powerFactor low high kVAT uk uR) (stationUnitBy tolerance Un Ur kVA xd ρ powerFactor low kVAT uk uR)
+unfolding stationUnitBy
+unit-near tolerance Un Ur kVA xd ρ powerFactor low high kVAT uk uR hx hk hp hρ hR hn hr hv hd hl hh ht =
+    rw (le-leb xd 100000 hx, le-leb uk 30000 hk, max-eq-left hp)
+    (equal 44 _ (stationUnit tolerance Un Ur kVA xd ρ powerFactor low high kVAT uk uR) _ (unit-proper tolerance Un Ur kVA xd ρ powerFactor low high kVAT uk uR (hr .0) (hv .0) (hl .0) (hh .0) (ht .0)) (unit-same tolerance Un Ur kVA xd ρ powerFactor low high kVAT uk uR)
+    (go (factorC tolerance Un) (apart xd (uxOf uk uR) * sineOf powerFactor) (uxOf uk uR) (factorC-sized tolerance Un) (unit-saturation-most xd uk uR powerFactor hx hk) (omega (arith, ux-most uk uR))))
+  where
+    go : (c D ux : ℕ) → (100 < c) × (c ≤ 110) → D ≤ 1000000000 → ux < 2 ^ 32
+        → Calculated 44 (reducedUnit c D Un Ur kVA xd ρ low kVAT uR ux)
+        (scaled c (1000000000 + D) (scaled Un 10 (scaled Un kVAT (added (scaled kVAT kVA (scaled xd 100 (wholePoint ρ 100))) (scaled low Ur (scaled low Ur (wholePoint uR ux)))))))
+    go c D ux h l m =
+        by 36 c (1000000000 + D) _ _ (omega arith) (omega arith, omega arith) (omega arith, omega arith)
+        (by 28 Un 10 _ _ (omega arith) hn (omega arith, omega arith)
+        (by 20 Un kVAT _ _ (omega arith) hn ht
+        (both 16 _ _ _ _ (omega arith)
+        (by 8 kVAT kVA _ _ (omega arith) ht hv (by 0 xd 100 _ _ (omega arith) hd (omega arith, omega arith) (start ρ 100 hρ (omega arith))))
+        (by 8 low Ur _ _ (omega arith) hl hr (by 0 low Ur _ _ (omega arith) hl hr (start uR ux hR m))))))
