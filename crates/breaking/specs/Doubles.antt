@@ -1,5 +1,5 @@
 -- The calculation of `breaking` as the code makes it: a definition for each function. That it keeps the promise is proved in laws/Promise.
-use Prim.Native.Nat.{ℕ, _+_, _*_, _/_, min}
+use Prim.Native.Nat.{ℕ, _+_, _*_, _/_}
 use mathlib.Core.Bool.{cond}
 use mathlib.Core.List.{List, [], _∷_}
 use lib.Dec.{eqb, ltb}
@@ -13,8 +13,8 @@ use Rattle.tree.specs.Ways.{driveBy, strengthBy, shareSteps, ratedSteps}
 use Rattle.sweep.specs.Points.{numberAt}
 use Rattle.sweep.specs.Crossings.{factorAt}
 use Rattle.network.specs.declared.study.Source.{Source}
-use Rattle.network.specs.SourceKinds.{isUnit, hasGenerator, isConverter}
-use Rattle.network.specs.RoundedSourceKinds.{admittanceBy}
+use Rattle.network.specs.SourceKinds.{hasGenerator, isConverter}
+use Rattle.network.specs.RoundedSourceKinds.{admittanceBy, voltsSeen, kvaSeen}
 use Rattle.network.specs.Network.{Network}
 use Rattle.network.specs.Query.{amperesGiven}
 use Rattle.network.specs.Doubles.{waysFrom}
@@ -30,14 +30,6 @@ amperesUp n = (n + 4095) / 4096
 -- the ground of the call, by that of a query
 unfoldable pub numberAfter : ℕ → ℕ → ℕ → ℕ → ℕ
 numberAfter found delay sources room = cond (eqb found 0) (cond (delayOk delay) (cond (ltb room (2 * sources)) 30 0) 31) found
-
--- a generator's rated volts and kVA as the bus of its source sees them, by which q is reckoned there: those of a unit are multiplied by its
--- high and its low volts. A unit of more kVA than any accepted one counts as one of the most
-unfoldable pub voltsSeen : Source → ℕ
-voltsSeen p = cond (isUnit p) (p .f1 * p .high) (p .f1)
-
-unfoldable pub kvaSeen : Source → ℕ
-kvaSeen p = cond (isUnit p) (min (p .f2) 1000000 * p .low) (p .f2)
 
 -- what a source adds: its two numbers of the table, and its steps in the sum; by its strength, and the ratio back and the divider of the way
 -- to it

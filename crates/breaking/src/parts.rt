@@ -3,13 +3,17 @@ ghost use mathlib.Core.Path.{_≡_};
 ghost use Prim.Native.Nat.{_*_, _^_, _≤_, _<_};
 ghost use Rattle.elements.specs.Factors.{factorC};
 ghost use Rattle.tree.specs.Ways.{driveBy, strengthBy, shareSteps, ratedSteps};
-ghost use Rattle.breaking.specs.Doubles.{weighed, amperesUp, voltsSeen, kvaSeen, generatorPart, partBy};
+ghost use Rattle.breaking.specs.Doubles.{weighed, amperesUp, generatorPart, partBy};
 use elements::factors::voltage_factor;
 use elements::mu::mu_of;
 use enclosure::Complex;
 use enclosure::roots::root_fine;
 use enclosure::roots::under_root;
+use network::has_generator;
+use network::is_converter;
+use network::kva_seen;
 use network::study::Source;
+use network::volts_seen;
 
 // A source's two numbers of the table, and its steps in the sum.
 pub struct Part {
@@ -53,29 +57,6 @@ fn share_steps(k: f64, ratio: f64, divider: f64) -> u64
     root_fine(k * (ratio * ratio * (ratio * ratio)) * divider)
 }
 
-// A generator's rated volts as the bus of its source sees them; those of a unit are multiplied by its high volts.
-fn volts_seen(p: Source) -> u64
-    ensures { λ r. ⌜ r ≡ voltsSeen p ⌝ }
-{
-    let volts = p.f1 as u64;
-    if p.kind == 5 {
-        return volts * (p.high as u64);
-    }
-    volts
-}
-
-// Its kVA; those of a unit, at most 1,000,000, are multiplied by its low volts.
-fn kva_seen(p: Source) -> u64
-    ensures { λ r. ⌜ (r ≡ kvaSeen p) × (r ≤ 2 ^ 52) ⌝ }
-{
-    let kva = p.f2 as u64;
-    if p.kind == 5 {
-        let few = if kva < 1_000_000 { kva } else { 1_000_000 };
-        return few * (p.low as u64);
-    }
-    kva
-}
-
 // A generator's share at its terminals, in steps of 1/40,960 of its rated current.
 fn rated_steps(k: f64, ratio: f64, divider: f64, volts: u64, kva: u64) -> u64
     requires { ⌜ kva ≤ 2 ^ 52 ⌝ }
@@ -116,10 +97,10 @@ fn generator_part(delay: u32, k: f64, ratio: f64, divider: f64, p: Source) -> Pa
 pub(crate) fn part_by(delay: u32, k: f64, ratio: f64, divider: f64, p: Source) -> Part
     ensures { λ r. ⌜ r ≡ partBy delay k ratio divider p ⌝ }
 {
-    if (p.kind == 2) | (p.kind == 5) {
+    if has_generator(p) {
         return generator_part(delay, k, ratio, divider, p);
     }
-    if p.kind == 4 {
+    if is_converter(p) {
         return Part {
             lower: 0.0,
             upper: 0.0,

@@ -1,10 +1,12 @@
--- What the kind of a source decides (SourceKinds), in f64 as the code calculates it: a machine's admittance, a converter's current.
-use Prim.Native.Nat.{ℕ}
+-- What the kind of a source decides (SourceKinds), in f64 as the code calculates it: a machine's admittance, a converter's current; and by
+-- which rated volts and kVA a generator's current is reckoned at the bus of its source.
+use Prim.Native.Nat.{ℕ, _*_, min}
+use mathlib.Core.Bool.{cond}
 use Rattle.enclosure.specs.declared.Complex.{Complex}
 use Rattle.enclosure.specs.Doubles.{none, inverted}
 use Rattle.elements.specs.Doubles.{feederBy, generatorBy, motorBy, stationUnitBy, converterBy}
 use Rattle.network.specs.declared.study.Source.{Source}
-use Rattle.network.specs.SourceKinds.{byKind}
+use Rattle.network.specs.SourceKinds.{isUnit, byKind}
 
 -- the impedance of each kind, by the tolerance of the study and Un of the source's bus
 abbrev pub feederImpedanceBy : ℕ → ℕ → Source → Complex
@@ -28,3 +30,12 @@ admittanceBy tolerance Un p =
 -- a converter's current
 abbrev pub suppliedBy : Source → Complex
 suppliedBy p = converterBy (p .f1) (p .f2)
+
+-- A generator's rated volts and kVA as the bus of its source sees them: those of a unit are multiplied by its high and its low volts, so that
+-- a current at that bus over the rated current is what it is at the terminals. A field above 1,000,000, which no accepted unit has, counts as
+-- that
+unfoldable pub voltsSeen : Source → ℕ
+voltsSeen p = cond (isUnit p) (min (p .f1) 1000000 * min (p .high) 1000000) (p .f1)
+
+unfoldable pub kvaSeen : Source → ℕ
+kvaSeen p = cond (isUnit p) (min (p .f2) 1000000 * min (p .low) 1000000) (p .f2)

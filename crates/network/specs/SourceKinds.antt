@@ -2,7 +2,7 @@
 -- records become twelve fields, unused ones 0": the ranges of its fields, its rated volts, its impedance or its current, exact; every other
 -- file asks here. The same in f64 is RoundedSourceKinds. What is said of a record out of range, or of a number that is no kind, has no
 -- meaning in the documents: the grounds refuse such a record.
-use mathlib.Core.Bool.{Bool, not, cond, _||_}
+use mathlib.Core.Bool.{Bool, not, cond, _&&_, _||_}
 use mathlib.Core.List.{List, [], _∷_}
 use Prim.Native.Nat.{ℕ}
 use lib.Dec.{leb, ltb, eqb}
@@ -50,13 +50,9 @@ byKind p feeder generator motor unit other = cond (isFeeder p) feeder (cond (isG
 abbrev pub ratioOk : ℕ → Bool
 ratioOk ρ = leb ρ 200
 
--- "unused ones 0": of any kind but a unit the five fields of its transformer
-abbrev pub noTransformer : Source → Bool
-noTransformer p = all (eqb (p .low) 0 ∷ eqb (p .high) 0 ∷ eqb (p .«transformer_kva») 0 ∷ eqb (p .uk) 0 ∷ eqb (p .ur) 0 ∷ [])
-
 -- "1, feeder: short-circuit kVA 1,000..100,000,000; ρ; 0; 0; 0."
 abbrev pub feederTests : Source → List Bool
-feederTests p = inRange (p .f1) 1000 100000000 ∷ ratioOk (p .f2) ∷ eqb (p .f3) 0 ∷ eqb (p .f4) 0 ∷ eqb (p .f5) 0 ∷ noTransformer p ∷ []
+feederTests p = inRange (p .f1) 1000 100000000 ∷ ratioOk (p .f2) ∷ eqb (p .f3) 0 ∷ eqb (p .f4) 0 ∷ eqb (p .f5) 0 ∷ []
 
 -- "Feeder: Z = c·Un²/(1,000·kVA), split by f."
 abbrev pub feederImpedance : ℕ → ℕ → Source → Point
@@ -65,7 +61,7 @@ feederImpedance tolerance Un p = impedance.feeder tolerance Un (p .f1) (p .f2)
 -- "2, generator: rated volts; kVA 10..1,000,000; xd 1,000..100,000 (thousandths of a percent); ρ; power factor 70..100 hundredths."
 -- The rated volts are held to the nominal ones alone, by ground 13.
 abbrev pub generatorTests : Source → List Bool
-generatorTests p = inRange (p .f2) 10 1000000 ∷ inRange (p .f3) 1000 100000 ∷ ratioOk (p .f4) ∷ inRange (p .f5) 70 100 ∷ noTransformer p ∷ []
+generatorTests p = inRange (p .f2) 10 1000000 ∷ inRange (p .f3) 1000 100000 ∷ ratioOk (p .f4) ∷ inRange (p .f5) 70 100 ∷ []
 
 -- "Generator: X = K_G·xd/100,000·Ur²/(1,000·kVA), R = X·ρ/100, .., c by its bus."
 abbrev pub generatorImpedance : ℕ → ℕ → Source → Point
@@ -73,7 +69,7 @@ generatorImpedance tolerance Un p = impedance.generator tolerance Un (p .f1) (p 
 
 -- "3, motor: rated volts; kVA 1..100,000; starting ratio 10..100 tenths; ρ; 0." The rated volts as a generator's.
 abbrev pub motorTests : Source → List Bool
-motorTests p = inRange (p .f2) 1 100000 ∷ inRange (p .f3) 10 100 ∷ ratioOk (p .f4) ∷ eqb (p .f5) 0 ∷ noTransformer p ∷ []
+motorTests p = inRange (p .f2) 1 100000 ∷ inRange (p .f3) 10 100 ∷ ratioOk (p .f4) ∷ eqb (p .f5) 0 ∷ []
 
 -- "Motor: Z = (10/ratio)·Ur²/(1,000·kVA), split by f."
 abbrev pub motorImpedance : Source → Point
@@ -81,7 +77,7 @@ motorImpedance p = impedance.motor (p .f1) (p .f2) (p .f3) (p .f4)
 
 -- "4, converter: rated current 1..100,000 tenths of an ampere; k 100..300 hundredths; 0; 0; 0."
 abbrev pub converterTests : Source → List Bool
-converterTests p = inRange (p .f1) 1 100000 ∷ inRange (p .f2) 100 300 ∷ eqb (p .f3) 0 ∷ eqb (p .f4) 0 ∷ eqb (p .f5) 0 ∷ noTransformer p ∷ []
+converterTests p = inRange (p .f1) 1 100000 ∷ inRange (p .f2) 100 300 ∷ eqb (p .f3) 0 ∷ eqb (p .f4) 0 ∷ eqb (p .f5) 0 ∷ []
 
 -- "rated current·k" of a converter, which has no impedance
 abbrev pub currentOf : Source → Point
@@ -108,9 +104,16 @@ unitImpedance tolerance Un p =
     impedance.stationUnit tolerance Un (p .f1) (p .f2) (p .f3) (p .f4) (p .f5) (p .low) (p .high) (p .«transformer_kva») (p .uk) (p .ur)
 
 -- ---- of a source of any kind
+unfoldable pub rangesOk : Source → Bool
+rangesOk p = byKind p (all (feederTests p)) (all (generatorTests p)) (all (motorTests p)) (all (unitTests p)) (all (converterTests p))
+
+-- "unused ones 0": the five fields of a transformer, which a unit alone has
+abbrev pub noTransformer : Source → Bool
+noTransformer p = all (eqb (p .low) 0 ∷ eqb (p .high) 0 ∷ eqb (p .«transformer_kva») 0 ∷ eqb (p .uk) 0 ∷ eqb (p .ur) 0 ∷ [])
+
 -- "12 source field out of range, or unused and not 0."
 unfoldable pub fieldsOk : Source → Bool
-fieldsOk p = byKind p (all (feederTests p)) (all (generatorTests p)) (all (motorTests p)) (all (unitTests p)) (all (converterTests p))
+fieldsOk p = rangesOk p && (isUnit p || noTransformer p)
 
 -- "13 machine rated voltage.": the machines that have rated volts at their bus, and these; "Ground 13 tests high volts against Un"
 abbrev pub isRated : Source → Bool

@@ -11,6 +11,7 @@ pub mod SourcesChanged
 pub mod AcceptedRecords
 pub mod Reached
 pub mod ElementSizes
+pub mod UnitSizes
 pub mod AcceptedTree
 pub mod BusSums
 pub mod ShareFacts

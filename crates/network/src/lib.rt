@@ -20,4 +20,8 @@ pub use contents::buses_of;
 pub use contents::is_closed;
 pub use contents::sources_of;
 pub use contents::tolerance_of;
+pub use source_kinds::has_generator;
+pub use source_kinds::is_converter;
+pub use source_kinds::kva_seen;
 pub use source_kinds::machine_admittance;
+pub use source_kinds::volts_seen;

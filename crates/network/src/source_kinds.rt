@@ -2,8 +2,9 @@
 // here.
 ghost use mathlib.Core.Path.{_≡_};
 ghost use Rattle.network.specs.Records.{all};
-ghost use Rattle.network.specs.SourceKinds.{isFeeder, isConverter, isUnit, sourceKindOk, noTransformer, feederTests, generatorTests, motorTests, converterTests, unitTests, fieldsOk, isRated, machineVolts};
-ghost use Rattle.network.specs.RoundedSourceKinds.{unitImpedanceBy, admittanceBy, suppliedBy};
+ghost use Prim.Native.Nat.{_^_, _≤_, min};
+ghost use Rattle.network.specs.SourceKinds.{isFeeder, isConverter, isUnit, hasGenerator, sourceKindOk, feederTests, generatorTests, motorTests, converterTests, unitTests, rangesOk, noTransformer, fieldsOk, isRated, machineVolts};
+ghost use Rattle.network.specs.RoundedSourceKinds.{unitImpedanceBy, admittanceBy, suppliedBy, voltsSeen, kvaSeen};
 use crate::study::Source;
 use elements::impedances::converter;
 use elements::impedances::feeder;
@@ -20,7 +21,7 @@ pub(crate) fn is_feeder(p: Source) -> bool
     p.kind == 1
 }
 
-pub(crate) fn is_converter(p: Source) -> bool
+pub fn is_converter(p: Source) -> bool
     ensures { λ r. ⌜ r ≡ isConverter p ⌝ }
 {
     p.kind == 4
@@ -30,6 +31,13 @@ pub(crate) fn is_unit(p: Source) -> bool
     ensures { λ r. ⌜ r ≡ isUnit p ⌝ }
 {
     p.kind == 5
+}
+
+// Whether it has a generator: it is one, or a unit.
+pub fn has_generator(p: Source) -> bool
+    ensures { λ r. ⌜ r ≡ hasGenerator p ⌝ }
+{
+    (p.kind == 2) | (p.kind == 5)
 }
 
 // Whether it is a machine that has rated volts at its bus: a generator, a motor or a unit.
@@ -53,23 +61,11 @@ pub(crate) fn kind_ok(p: Source) -> bool
     (1 <= p.kind) & (p.kind <= 5)
 }
 
-// Ground 12 of any kind but a unit: no field of a transformer.
-fn no_transformer(p: Source) -> bool
-    ensures { λ r. ⌜ r ≡ noTransformer p ⌝ }
-{
-    (p.low == 0) & (p.high == 0) & (p.transformer_kva == 0) & (p.uk == 0) & (p.ur == 0)
-}
-
 // Ground 12 of a feeder: kVA, R/X, 0, 0, 0.
 fn feeder_ok(p: Source) -> bool
     ensures { λ r. ⌜ r ≡ all (feederTests p) ⌝ }
 {
-    ((1000 <= p.f1) & (p.f1 <= 100000000))
-        & (p.f2 <= 200)
-        & (p.f3 == 0)
-        & (p.f4 == 0)
-        & (p.f5 == 0)
-        & no_transformer(p)
+    ((1000 <= p.f1) & (p.f1 <= 100000000)) & (p.f2 <= 200) & (p.f3 == 0) & (p.f4 == 0) & (p.f5 == 0)
 }
 
 // Ground 12 of a generator: kVA, xd, R/X, power factor. Its rated volts have ground 13.
@@ -80,18 +76,13 @@ fn generator_ok(p: Source) -> bool
         & ((1000 <= p.f3) & (p.f3 <= 100000))
         & (p.f4 <= 200)
         & ((70 <= p.f5) & (p.f5 <= 100))
-        & no_transformer(p)
 }
 
 // Ground 12 of a motor: kVA, starting ratio, R/X, 0. Its rated volts have ground 13.
 fn motor_ok(p: Source) -> bool
     ensures { λ r. ⌜ r ≡ all (motorTests p) ⌝ }
 {
-    ((1 <= p.f2) & (p.f2 <= 100000))
-        & ((10 <= p.f3) & (p.f3 <= 100))
-        & (p.f4 <= 200)
-        & (p.f5 == 0)
-        & no_transformer(p)
+    ((1 <= p.f2) & (p.f2 <= 100000)) & ((10 <= p.f3) & (p.f3 <= 100)) & (p.f4 <= 200) & (p.f5 == 0)
 }
 
 // Ground 12 of a converter: rated current, k, 0, 0, 0.
@@ -103,7 +94,6 @@ fn converter_ok(p: Source) -> bool
         & (p.f3 == 0)
         & (p.f4 == 0)
         & (p.f5 == 0)
-        & no_transformer(p)
 }
 
 // Ground 12 of a unit: kVA, xd, R/X and power factor of its generator; low volts, kVA, uk and uR of its transformer. Generator volts and
@@ -121,9 +111,9 @@ fn unit_ok(p: Source) -> bool
         & (p.ur < p.uk)
 }
 
-// Ground 12: the fields, by the kind.
-pub(crate) fn fields_ok(p: Source) -> bool
-    ensures { λ r. ⌜ r ≡ fieldsOk p ⌝ }
+// Ground 12: the ranges of the fields, by the kind.
+fn ranges_ok(p: Source) -> bool
+    ensures { λ r. ⌜ r ≡ rangesOk p ⌝ }
 {
     let kind = p.kind;
     match kind {
@@ -133,6 +123,20 @@ pub(crate) fn fields_ok(p: Source) -> bool
         5 => unit_ok(p),
         _ => converter_ok(p),
     }
+}
+
+// Whether it has no field of a transformer.
+fn no_transformer(p: Source) -> bool
+    ensures { λ r. ⌜ r ≡ noTransformer p ⌝ }
+{
+    (p.low == 0) & (p.high == 0) & (p.transformer_kva == 0) & (p.uk == 0) & (p.ur == 0)
+}
+
+// Ground 12: the fields that its kind has are in range, and any other is 0.
+pub(crate) fn fields_ok(p: Source) -> bool
+    ensures { λ r. ⌜ r ≡ fieldsOk p ⌝ }
+{
+    ranges_ok(p) & (is_unit(p) | no_transformer(p))
 }
 
 // The impedance of a unit at a bus of these nominal volts.
@@ -173,4 +177,35 @@ pub(crate) fn converter_current(p: Source) -> Complex
     ensures { λ x. ⌜ x ≡ suppliedBy p ⌝ }
 {
     converter(p.f1, p.f2)
+}
+
+// At most 1,000,000, which no field of an accepted unit that it is asked for is above.
+fn at_most_a_million(x: u32) -> u64
+    ensures { λ r. ⌜ (r ≡ min x 1000000) × (r ≤ 1000000) ⌝ }
+{
+    if x < 1_000_000 {
+        x as u64
+    } else {
+        1_000_000
+    }
+}
+
+// The rated volts of a generator as the bus of its source sees them; those of a unit are multiplied by its high volts.
+pub fn volts_seen(p: Source) -> u64
+    ensures { λ r. ⌜ (r ≡ voltsSeen p) × (r ≤ 2 ^ 40) ⌝ }
+{
+    if p.kind == 5 {
+        return at_most_a_million(p.f1) * at_most_a_million(p.high);
+    }
+    p.f1 as u64
+}
+
+// Its kVA; those of a unit are multiplied by its low volts.
+pub fn kva_seen(p: Source) -> u64
+    ensures { λ r. ⌜ (r ≡ kvaSeen p) × (r ≤ 2 ^ 40) ⌝ }
+{
+    if p.kind == 5 {
+        return at_most_a_million(p.f2) * at_most_a_million(p.low);
+    }
+    p.f2 as u64
 }

@@ -43,9 +43,12 @@ coveredBuses = 128
 abbrev pub coveredSources : ℕ
 coveredSources = 512
 
--- ---- errors, in parts in 2 ^ 53. What stands at a bus: a machine's admittance has 45, a converter's current 8, and each sum adds 4
+-- ---- errors, in parts in 2 ^ 53. What stands at a bus: a machine's admittance has 57, a converter's current 8, and each sum adds 4
+abbrev pub machineUnits : ℕ
+machineUnits = 57
+
 abbrev pub ownUnits : ℕ
-ownUnits = 45 + 4 * coveredSources
+ownUnits = machineUnits + 4 * coveredSources
 
 abbrev pub currentUnits : ℕ
 currentUnits = 8 + 4 * coveredSources

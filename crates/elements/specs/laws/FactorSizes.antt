@@ -39,5 +39,12 @@ saturation-most xd p h = mul-le-mul h (sine-most p)
 apart-most : (a b k : ℕ) → a ≤ k → b ≤ k → apart a b ≤ k
 apart-most a b k h l = omega arith
 
+-- and against xd: at most 1,310,000·xd with the 10⁹ that it is added to
+pub unit-saturation-over : (xd uk uR p : ℕ) → 1000 ≤ xd → uk ≤ 30000 → 1000000000 + apart xd (uxOf uk uR) * sineOf p ≤ 1310000 * xd
+unit-saturation-over xd uk uR p h k = go (uxOf uk uR) (ux-most uk uR)
+  where
+    go : (ux : ℕ) → ux ≤ uk → 1000000000 + apart xd ux * sineOf p ≤ 1310000 * xd
+    go ux l = let m : apart xd ux ≤ xd + 30000 = omega arith in omega (arith, mul-le-mul m (sine-most p))
+
 pub unit-saturation-most : (xd uk uR p : ℕ) → xd ≤ 100000 → uk ≤ 30000 → apart xd (uxOf uk uR) * sineOf p ≤ 1000000000
 unit-saturation-most xd uk uR p h k = mul-le-mul (apart-most xd (uxOf uk uR) 100000 h (omega (arith, ux-most uk uR))) (sine-most p)

@@ -1,6 +1,6 @@
 -- What every network that calls can make keeps (`run-rebuilt`), as facts about its numbers. Each law takes the invariant first.
 use mathlib.Core.Path.{_≡_, refl}
-use mathlib.Core.Bool.{true, not}
+use mathlib.Core.Bool.{true, not, _||_}
 use mathlib.Core.Logic.{_⊎_, inl, inr}
 use Prim.Native.Nat.{ℕ, _+_, _*_, _≤_, _<_}
 use native.Mathlib.Omega.{arith}
@@ -10,7 +10,7 @@ use lib.ListN.{length}
 use Rattle.network.specs.declared.study.Bus.{Bus}
 use Rattle.network.specs.declared.study.Source.{Source}
 use Rattle.network.specs.Records.{inRange, all, lineTests, transformerTests, branchOk, ratedOk}
-use Rattle.network.specs.SourceKinds.{isFeeder, feederTests, generatorTests, motorTests, converterTests, fieldsOk, isRated, machineVolts, sourceKindOk}
+use Rattle.network.specs.SourceKinds.{isFeeder, isUnit, feederTests, generatorTests, motorTests, converterTests, unitTests, rangesOk, noTransformer, fieldsOk, isRated, machineVolts, sourceKindOk}
 use Rattle.network.specs.Network.{Network, busAt, parentRecord, sourceAt, depthOf, transformersOf}
 use Rattle.tree.specs.Limits.{maxBuses, maxSources, maxBranches, maxTransformers}
 use Rattle.network.specs.Grounds.{depthOk, busGrounds, busRecordNumber, sourceGrounds, sourceRecordNumber}
@@ -121,6 +121,44 @@ converter-fields p e =
     let k = in-range (p .f2) 100 300 (h .1 .0) in
     record { current = c .0; current-most = c .1; k = k .0; k-most = k .1 }
 
+pub record UnitRanges (p : Source) : Type 0 where
+  pub kVA : 10 ≤ p .f2
+  pub kVA-most : p .f2 ≤ 1000000
+  pub xd : 1000 ≤ p .f3
+  pub xd-most : p .f3 ≤ 100000
+  pub ratio : p .f4 ≤ 200
+  pub power-factor : 70 ≤ p .f5
+  pub low : 90 ≤ p .low
+  pub low-most : p .low ≤ 462000
+  pub transformer : 10 ≤ p .«transformer_kva»
+  pub transformer-most : p .«transformer_kva» ≤ 1000000
+  pub uk-most : p .uk ≤ 30000
+  pub uR : p .ur < p .uk
+
+unit-fields : (p : Source) → all (unitTests p) ≡ true → UnitRanges p
+unit-fields p e =
+    let h = all-true (unitTests p) e in
+    let s = in-range (p .f2) 10 1000000 (h .0) in
+    let x = in-range (p .f3) 1000 100000 (h .1 .0) in
+    let c = in-range (p .f5) 70 100 (h .1 .1 .1 .0) in
+    let v = in-range (p .low) 90 462000 (h .1 .1 .1 .1 .0) in
+    let t = in-range (p .«transformer_kva») 10 1000000 (h .1 .1 .1 .1 .1 .0) in
+    let u = in-range (p .uk) 100 30000 (h .1 .1 .1 .1 .1 .1 .0) in
+    record {
+      kVA = s .0;
+      kVA-most = s .1;
+      xd = x .0;
+      xd-most = x .1;
+      ratio = leb-true (p .f4) 200 (h .1 .1 .0);
+      power-factor = c .0;
+      low = v .0;
+      low-most = v .1;
+      transformer = t .0;
+      transformer-most = t .1;
+      uk-most = u .1;
+      uR = ltb-true (p .ur) (p .uk) (h .1 .1 .1 .1 .1 .1 .1 .0);
+    }
+
 -- ---- the whole network
 module _ {n : Network} (r : Rebuilt n) where
   pub few-buses : length (n .buses) ≤ maxBuses
@@ -202,28 +240,36 @@ module _ {n : Network} (r : Rebuilt n) (j : ℕ) (h : j < length (n .sources)) w
   pub source-kind-ok : sourceKindOk (sourceAt (n .sources) j) ≡ true
   source-kind-ok = source-test 10
 
-  pub source-kind : (1 ≤ sourceAt (n .sources) j .kind) × (sourceAt (n .sources) j .kind ≤ 4)
-  source-kind = in-range (sourceAt (n .sources) j .kind) 1 4 source-kind-ok
+  pub source-kind : (1 ≤ sourceAt (n .sources) j .kind) × (sourceAt (n .sources) j .kind ≤ 5)
+  source-kind = in-range (sourceAt (n .sources) j .kind) 1 5 source-kind-ok
 
   pub source-bus : sourceAt (n .sources) j .bus < length (n .buses)
   source-bus = ltb-true _ _ (source-test 11)
 
-  -- the five fields, by the kind
-  pub feeder-ranges : sourceAt (n .sources) j .kind ≡ 1 → FeederRanges (sourceAt (n .sources) j)
+  -- the fields, by the kind
+  ranges : rangesOk (sourceAt (n .sources) j) ≡ true
   unfolding fieldsOk
-  feeder-ranges k = feeder-fields (sourceAt (n .sources) j) (rw k at (source-test 12))
+  ranges = let p = sourceAt (n .sources) j in both-true (rangesOk p) (isUnit p || noTransformer p) (source-test 12) .0
+
+  pub feeder-ranges : sourceAt (n .sources) j .kind ≡ 1 → FeederRanges (sourceAt (n .sources) j)
+  unfolding rangesOk
+  feeder-ranges k = feeder-fields (sourceAt (n .sources) j) (rw k at ranges)
 
   pub generator-ranges : sourceAt (n .sources) j .kind ≡ 2 → GeneratorRanges (sourceAt (n .sources) j)
-  unfolding fieldsOk
-  generator-ranges k = generator-fields (sourceAt (n .sources) j) (rw k at (source-test 12))
+  unfolding rangesOk
+  generator-ranges k = generator-fields (sourceAt (n .sources) j) (rw k at ranges)
 
   pub motor-ranges : sourceAt (n .sources) j .kind ≡ 3 → MotorRanges (sourceAt (n .sources) j)
-  unfolding fieldsOk
-  motor-ranges k = motor-fields (sourceAt (n .sources) j) (rw k at (source-test 12))
+  unfolding rangesOk
+  motor-ranges k = motor-fields (sourceAt (n .sources) j) (rw k at ranges)
 
   pub converter-ranges : sourceAt (n .sources) j .kind ≡ 4 → ConverterRanges (sourceAt (n .sources) j)
-  unfolding fieldsOk
-  converter-ranges k = converter-fields (sourceAt (n .sources) j) (rw k at (source-test 12))
+  unfolding rangesOk
+  converter-ranges k = converter-fields (sourceAt (n .sources) j) (rw k at ranges)
+
+  pub unit-ranges : sourceAt (n .sources) j .kind ≡ 5 → UnitRanges (sourceAt (n .sources) j)
+  unfolding rangesOk
+  unit-ranges k = unit-fields (sourceAt (n .sources) j) (rw k at ranges)
 
   -- the rated volts of a machine that has them against the nominal volts of its bus
   pub machine-volts : isRated (sourceAt (n .sources) j) ≡ true → Rated (machineVolts (sourceAt (n .sources) j)) (busAt (n .buses) (sourceAt (n .sources) j .bus) .volts)
@@ -231,6 +277,12 @@ module _ {n : Network} (r : Rebuilt n) (j : ℕ) (h : j < length (n .sources)) w
       let p = sourceAt (n .sources) j in
       let u = busAt (n .buses) (p .bus) .volts in
       rated-near (machineVolts p) u (where-true (isRated p) (ratedOk (machineVolts p) u) (source-test 13) e)
+
+  -- a unit's generator volts against the low volts of its transformer
+  pub unit-volts : sourceAt (n .sources) j .kind ≡ 5 → Rated (sourceAt (n .sources) j .f1) (sourceAt (n .sources) j .low)
+  unit-volts k =
+      let p = sourceAt (n .sources) j in
+      rated-near (p .f1) (p .low) (where-true (isUnit p) (ratedOk (p .f1) (p .low)) (source-test 32) (rw k))
 
   -- "Exactly one, the first source, at bus 0."
   pub first-feeder : j ≡ 0 → (sourceAt (n .sources) j .kind ≡ 1) × (sourceAt (n .sources) j .bus ≡ 0)

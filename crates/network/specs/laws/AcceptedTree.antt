@@ -17,7 +17,8 @@ use Rattle.enclosure.specs.laws.Nearness.{inverse-proper}
 use Rattle.enclosure.specs.laws.F64Range.{Factor}
 use Rattle.enclosure.specs.declared.Complex.{Complex}
 use Rattle.elements.specs.Impedance.{converter}
-use Rattle.elements.specs.laws.ImpedanceErrors.{line-near, transformer-near, feeder-near, generator-near, motor-near, converter-near, admittance-near}
+use Rattle.elements.specs.laws.ImpedanceErrors.{line-near, transformer-near, feeder-near, generator-near, motor-near, unit-near, converter-near, admittance-near}
+use Rattle.tree.specs.Limits.{machineUnits}
 use Rattle.tree.specs.Grid.{joined, timesSquare, parentOf}
 use Rattle.tree.specs.laws.Walk.{to-parent, to-child}
 use Rattle.tree.specs.laws.Toward.{toward-same, depth}
@@ -28,13 +29,14 @@ use Rattle.tree.specs.laws.BusSums.{Bounded}
 use Rattle.network.specs.Network as records
 use Rattle.network.specs.Network.{Network, busAt, sourceAt, along}
 use Rattle.network.specs.laws.Rebuilt.{Rebuilt}
-use Rattle.network.specs.laws.AcceptedRecords.{bus-volts, bus-parent, bus-kind, line-ranges, transformer-ranges, line-volts, transformer-volts, bus-depth, Rated, source-kind-ok, source-bus, feeder-ranges, generator-ranges, motor-ranges, converter-ranges, machine-volts, ConverterRanges}
+use Rattle.network.specs.laws.AcceptedRecords.{bus-volts, bus-parent, bus-kind, line-ranges, transformer-ranges, line-volts, transformer-volts, bus-depth, Rated, source-kind-ok, source-bus, feeder-ranges, generator-ranges, motor-ranges, unit-ranges, converter-ranges, machine-volts, unit-volts, ConverterRanges}
 use Rattle.network.specs.SourceKinds.{isMachine, isConverter, impedanceOf, currentOf}
 use Rattle.network.specs.laws.SourceKinds.{machine-cases}
 use Rattle.network.specs.RoundedSourceKinds.{admittanceBy, suppliedBy}
 use Rattle.network.specs.Grid.{branchOf, aboveOf, belowOf, admittanceOf, gridOf}
 use Rattle.network.specs.Doubles.{branchBy, machineBy, branchesBy}
 use Rattle.network.specs.laws.ElementSizes.{branchMost, machineMost, line-impedance, line-least, transformer-impedance, transformer-least, transformer-least-above, Machine, feeder-machine, generator-machine, motor-machine}
+use Rattle.network.specs.laws.UnitSizes.{UnitRange, unit-machine}
 
 -- nominal volts
 abbrev pub voltsOf : Network → ℕ → ℕ
@@ -189,14 +191,50 @@ module _ {n : Network} (r : Rebuilt n) where
         → (sourceAt (n .sources) j .kind ≡ 1 → P (impedanceOf (n .tolerance) (voltsOf n (sourceAt (n .sources) j .bus)) (sourceAt (n .sources) j)) (machineBy n (sourceAt (n .sources) j)))
         → (sourceAt (n .sources) j .kind ≡ 2 → P (impedanceOf (n .tolerance) (voltsOf n (sourceAt (n .sources) j .bus)) (sourceAt (n .sources) j)) (machineBy n (sourceAt (n .sources) j)))
         → (sourceAt (n .sources) j .kind ≡ 3 → P (impedanceOf (n .tolerance) (voltsOf n (sourceAt (n .sources) j .bus)) (sourceAt (n .sources) j)) (machineBy n (sourceAt (n .sources) j)))
+        → (sourceAt (n .sources) j .kind ≡ 5 → P (impedanceOf (n .tolerance) (voltsOf n (sourceAt (n .sources) j .bus)) (sourceAt (n .sources) j)) (machineBy n (sourceAt (n .sources) j)))
         → P (impedanceOf (n .tolerance) (voltsOf n (sourceAt (n .sources) j .bus)) (sourceAt (n .sources) j)) (machineBy n (sourceAt (n .sources) j))
-    cases P one two three = ⊎-elim one (⊎-elim two three) (machine-cases (sourceAt (n .sources) j) (source-kind-ok r j l) m)
+    cases P one two three five = ⊎-elim one (⊎-elim two (⊎-elim three five)) (machine-cases (sourceAt (n .sources) j) (source-kind-ok r j l) m)
 
-    rated : sourceAt (n .sources) j .kind ≡ 2 → Rated (sourceAt (n .sources) j .f1) (voltsOf n (sourceAt (n .sources) j .bus))
-    rated k = machine-volts r j l (rw k)
+    -- rated volts at its bus
+    pub rated : sourceAt (n .sources) j .kind ≡ 2 → Rated (sourceAt (n .sources) j .f1) (voltsOf n (sourceAt (n .sources) j .bus))
+    rated k = rw k at (machine-volts r j l (rw k))
 
-    rated-three : sourceAt (n .sources) j .kind ≡ 3 → Rated (sourceAt (n .sources) j .f1) (voltsOf n (sourceAt (n .sources) j .bus))
-    rated-three k = machine-volts r j l (rw k)
+    pub rated-three : sourceAt (n .sources) j .kind ≡ 3 → Rated (sourceAt (n .sources) j .f1) (voltsOf n (sourceAt (n .sources) j .bus))
+    rated-three k = rw k at (machine-volts r j l (rw k))
+
+    pub rated-high : sourceAt (n .sources) j .kind ≡ 5 → Rated (sourceAt (n .sources) j .high) (voltsOf n (sourceAt (n .sources) j .bus))
+    rated-high k = rw k at (machine-volts r j l (rw k))
+
+    -- what a unit's record gives, over plain numbers
+    pub unit-range : sourceAt (n .sources) j .kind ≡ 5
+        → UnitRange (voltsOf n (sourceAt (n .sources) j .bus)) (sourceAt (n .sources) j .f1) (sourceAt (n .sources) j .f2) (sourceAt (n .sources) j .f3) (sourceAt (n .sources) j .f4)
+        (sourceAt (n .sources) j .low) (sourceAt (n .sources) j .high) (sourceAt (n .sources) j .«transformer_kva») (sourceAt (n .sources) j .uk) (sourceAt (n .sources) j .ur)
+    unit-range k =
+        let f = unit-ranges r j l k in
+        let u = source-volts in
+        let g = unit-volts r j l k in
+        record {
+          volts = u .0;
+          volts-most = u .1;
+          rated = terminals _ _ (f .low) (g .least);
+          kva = f .kVA;
+          kva-most = f .kVA-most;
+          xd-least = f .xd;
+          xd-most = f .xd-most;
+          ratio = f .ratio;
+          low-some = le-trans (lit≤ tt) (f .low);
+          low-most = f .low-most;
+          high-some = le-trans (lit≤ tt) (rated-least _ _ (u .0) (rated-high k .least));
+          transformer = f .transformer;
+          uk-most = f .uk-most;
+          uR-most = below _ _ (f .uR) (f .uk-most);
+        }
+      where
+        terminals : (v low : ℕ) → 90 ≤ low → 9 * low ≤ 10 * v → 81 ≤ v
+        terminals v low h k = omega arith
+
+        below : (uR uk : ℕ) → uR < uk → uk ≤ 30000 → uR ≤ 30000
+        below uR uk h k = omega arith
 
     -- its impedance is in range
     pub machine-sized : Machine (voltsOf n (sourceAt (n .sources) j .bus)) (impedanceOf (n .tolerance) (voltsOf n (sourceAt (n .sources) j .bus)) (sourceAt (n .sources) j))
@@ -213,31 +251,42 @@ module _ {n : Network} (r : Rebuilt n) where
         let f = motor-ranges r j l k in
         let t = rated-three k in
         rw k (motor-machine _ _ _ _ _ (t .least) (rated-least _ _ (u .0) (t .least)) (rated-most _ _ (u .1) (t .most)) (f .kVA) (f .kVA-most) (f .start) (f .start-most) (f .ratio)))
+        (λ k. rw k (unit-machine (n .tolerance) _ _ _ _ _ (sourceAt (n .sources) j .f5) _ _ _ _ _ (unit-range k)))
 
     -- and its admittance near its f64
-    pub machine-near : Accurate 45 (admittanceOf n (sourceAt (n .sources) j)) (machineBy n (sourceAt (n .sources) j))
+    pub machine-near : Accurate machineUnits (admittanceOf n (sourceAt (n .sources) j)) (machineBy n (sourceAt (n .sources) j))
     unfolding impedanceOf admittanceBy
     machine-near =
         let u = source-volts in
         let p = sourceAt (n .sources) j in
         let U = voltsOf n (p .bus) in
         let hU : Factor U = (le-trans (lit≤ tt) (u .0), omega (arith, u .1)) in
-        cases (λ x y. Accurate 45 (inverse x) y)
+        cases (λ x y. Accurate machineUnits (inverse x) y)
         (λ k.
         let f = feeder-ranges r j l k in
         let h = admittance-near 24 _ _ (lit≤ tt) (feeder-near (n .tolerance) U (p .f1) (p .f2) (f .ratio) hU (le-trans (lit≤ tt) (f .kVA), omega (arith, f .kVA-most))) in
-        rw k (accurate-more 37 45 _ _ (lit≤ tt) (h .0, h .1 .fine)))
+        rw k (accurate-more 37 machineUnits _ _ (lit≤ tt) (h .0, h .1 .fine)))
         (λ k.
         let f = generator-ranges r j l k in
         let t = rated k in
         let h = admittance-near 24 _ _ (lit≤ tt) (generator-near (n .tolerance) U (p .f1) (p .f2) (p .f3) (p .f4) (p .f5) (f .xd-most) (f .ratio) (f .power-factor) hU
         (le-trans (lit≤ tt) (rated-least _ _ (u .0) (t .least)), omega (arith, rated-most (p .f1) U (u .1) (t .most))) (le-trans (lit≤ tt) (f .kVA), omega (arith, f .kVA-most))) in
-        rw k (accurate-more 37 45 _ _ (lit≤ tt) (h .0, h .1 .fine)))
+        rw k (accurate-more 37 machineUnits _ _ (lit≤ tt) (h .0, h .1 .fine)))
         (λ k.
         let f = motor-ranges r j l k in
         let t = rated-three k in
         let h = admittance-near 32 _ _ (lit≤ tt) (motor-near (p .f1) (p .f2) (p .f3) (p .f4) (f .ratio)
         (le-trans (lit≤ tt) (rated-least _ _ (u .0) (t .least)), omega (arith, rated-most (p .f1) U (u .1) (t .most))) (f .kVA, omega (arith, f .kVA-most)) (le-trans (lit≤ tt) (f .start), omega (arith, f .start-most))) in
+        rw k (accurate-more 45 machineUnits _ _ (lit≤ tt) (h .0, h .1 .fine)))
+        (λ k.
+        let f = unit-ranges r j l k in
+        let w = unit-range k in
+        let t = rated-high k in
+        let g = unit-volts r j l k in
+        let h = admittance-near 44 _ _ (lit≤ tt) (unit-near (n .tolerance) U (p .f1) (p .f2) (p .f3) (p .f4) (p .f5) (p .low) (p .high) (p .«transformer_kva») (p .uk) (p .ur)
+        (f .xd-most) (f .uk-most) (f .power-factor) (omega (arith, f .ratio)) (omega (arith, w .uR-most)) hU (le-trans (lit≤ tt) (w .rated), omega (arith, g .most, f .low-most))
+        (le-trans (lit≤ tt) (f .kVA), omega (arith, f .kVA-most)) (le-trans (lit≤ tt) (f .xd), omega (arith, f .xd-most)) (w .low-some, omega (arith, f .low-most))
+        (w .high-some, omega (arith, rated-most (p .high) U (u .1) (t .most))) (le-trans (lit≤ tt) (f .transformer), omega (arith, f .transformer-most))) in
         rw k (h .0, h .1 .fine))
 
     -- its admittance: nothing is gained but what its impedance allows

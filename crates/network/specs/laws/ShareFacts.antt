@@ -7,10 +7,10 @@ use mathlib.Core.Bool.{true, false}
 use mathlib.Core.List.{[], _∷_}
 use mathlib.Core.Logic.{inl, inr, ⊎-elim}
 use native.Mathlib.Omega.{arith}
-use native.Mathlib.Nat.{le-refl, le-trans, lt-of-not-le, mul-le-mul, mul-pos}
+use native.Mathlib.Nat.{le-refl, le-trans, lt-of-not-le, mul-le-mul, mul-pos, min-eq-left}
 use lib.Dec.{lit<, lit≤}
 use lib.ListN.{length}
-use borrow.Author.Tests.{eqb-true, ne-eqb}
+use borrow.Author.Tests.{ne-eqb}
 use Rattle.algebra.specs.Reading.{poly, from, from-over, read, _⊹_, _⋆_}
 use Rattle.enclosure.specs.Exact.{Point, times, isNothing}
 use Rattle.enclosure.specs.laws.Root.{below-of-squares}
@@ -22,14 +22,16 @@ use Rattle.tree.specs.Grid.{parentOf}
 use Rattle.tree.specs.laws.AdmittanceSizes.{AtLeast, Low, most-inverse}
 use Rattle.tree.specs.laws.TreeBounds.{tenths}
 use Rattle.network.specs.Network.{Network, maxTransformers, busAt, sourceAt, ifTransformer, transformersOf}
-use Rattle.network.specs.SourceKinds.{isMachine, isGenerator, impedanceOf}
+use Rattle.network.specs.SourceKinds.{isMachine, hasGenerator, impedanceOf}
+use Rattle.network.specs.RoundedSourceKinds.{voltsSeen, kvaSeen}
 use Rattle.network.specs.Grid.{aboveOf, belowOf, admittanceOf, gridOf}
 use Rattle.network.specs.Demand.{driving}
 use Rattle.network.specs.laws.Rebuilt.{Rebuilt}
-use Rattle.network.specs.laws.SourceKinds.{machine-cases}
+use Rattle.network.specs.laws.SourceKinds.{machine-cases, generator-cases}
 use Rattle.network.specs.laws.Ways.{way-more}
-use Rattle.network.specs.laws.AcceptedRecords.{bus-volts, bus-parent, bus-kind, bus-depth, line-volts, transformer-volts, source-kind-ok, source-bus, feeder-ranges, generator-ranges, motor-ranges, machine-volts}
-use Rattle.network.specs.laws.AcceptedTree.{voltsOf, machine-bounded, machine-reactive}
+use Rattle.network.specs.laws.AcceptedRecords.{bus-volts, bus-parent, bus-kind, bus-depth, line-volts, transformer-volts, source-kind-ok, source-bus, feeder-ranges, generator-ranges, motor-ranges, unit-ranges, unit-volts}
+use Rattle.network.specs.laws.AcceptedTree.{voltsOf, rated, rated-three, rated-high, unit-range, machine-bounded, machine-reactive}
+use Rattle.network.specs.laws.UnitSizes.{unit-square}
 
 -- ---- the impedance of a machine, kind by kind: R + X is at least Un²/2 ^ 37 ohms
 -- R + X of an impedance of 10⁸ that is split is 10⁸ or more, but for what rounding f down takes
@@ -85,8 +87,10 @@ module _ {n : Network} (r : Rebuilt n) (j : ℕ) (l : j < length (n .sources)) (
       ⊎-elim
       (λ (k : sourceAt (n .sources) j .kind ≡ 1). let f = feeder-ranges r j l k in rw k (feeder-square (n .tolerance) _ _ _ (f .kVA-most) (f .ratio)))
       (⊎-elim
-      (λ (k : sourceAt (n .sources) j .kind ≡ 2). let f = generator-ranges r j l k in rw k (generator-square (n .tolerance) _ _ _ _ _ (sourceAt (n .sources) j .f5) (machine-volts r j l (rw k) .least) (f .kVA-most) (f .xd)))
-      (λ (k : sourceAt (n .sources) j .kind ≡ 3). let f = motor-ranges r j l k in rw k (motor-square _ _ _ _ _ (machine-volts r j l (rw k) .least) (f .kVA-most) (f .start-most) (f .ratio))))
+      (λ (k : sourceAt (n .sources) j .kind ≡ 2). let f = generator-ranges r j l k in rw k (generator-square (n .tolerance) _ _ _ _ _ (sourceAt (n .sources) j .f5) (rated r j l m k .least) (f .kVA-most) (f .xd)))
+      (⊎-elim
+      (λ (k : sourceAt (n .sources) j .kind ≡ 3). let f = motor-ranges r j l k in rw k (motor-square _ _ _ _ _ (rated-three r j l m k .least) (f .kVA-most) (f .start-most) (f .ratio)))
+      (λ (k : sourceAt (n .sources) j .kind ≡ 5). rw k (unit-square (n .tolerance) _ _ _ _ _ (sourceAt (n .sources) j .f5) _ _ _ _ _ (unit-range r j l m k)))))
       (machine-cases (sourceAt (n .sources) j) (source-kind-ok r j l) m)
 
   -- THE SIZE OF A MACHINE'S ADMITTANCE times the square of its bus's nominal volts: 2.75·10¹¹ VA at the most
@@ -116,19 +120,67 @@ module _ {n : Network} (r : Rebuilt n) (j : ℕ) (l : j < length (n .sources)) (
       go : (s d : ℕ) → s * 1 ≤ 2 ^ 100 * d → s ≤ 2 ^ 108 * d
       go s d h = from (s ∷ d ∷ []) h (search read depth 40 fits 20000) refl
 
--- a generator's record: kVA, and rated volts against the nominal ones
-module _ {n : Network} (r : Rebuilt n) (j : ℕ) (l : j < length (n .sources)) (g : isGenerator (sourceAt (n .sources) j) ≡ true) where
-  pub generator-kva : (10 ≤ sourceAt (n .sources) j .f2) × (sourceAt (n .sources) j .f2 ≤ 1000000)
-  generator-kva = let f = generator-ranges r j l (eqb-true _ 2 g) in (f .kVA, f .kVA-most)
+-- ---- a generator's rated volts and kVA, as a bus of U nominal volts sees them: both are multiplied by `scale`, which is 1 or the low volts
+-- of its unit
+pub record SeenRating (U volts kva : ℕ) : Type 0 where
+  pub scale : ℕ
+  pub volts-some : 0 < volts
+  pub volts-few : volts ≤ 2 ^ 53
+  pub volts-most : 100 * volts ≤ 121 * (scale * U)
+  pub kva-some : 0 < kva
+  pub kva-few : 100 * kva ≤ 2 ^ 53
+  pub kva-least : 10 * scale ≤ kva
 
-  pub generator-rated : 0 < sourceAt (n .sources) j .f1
-  generator-rated = some _ _ (bus-volts r (sourceAt (n .sources) j .bus) (source-bus r j l) .0) (machine-volts r j l (rw g) .least)
+generator-seen : (U volts kva : ℕ) → 100 ≤ U → U ≤ 420000 → 9 * U ≤ 10 * volts → 10 * volts ≤ 11 * U → 10 ≤ kva → kva ≤ 1000000 → SeenRating U volts kva
+generator-seen U volts kva u₀ u₁ v₀ v₁ k₀ k₁ = record {
+  scale = 1;
+  volts-some = omega arith;
+  volts-few = omega arith;
+  volts-most = omega arith;
+  kva-some = omega arith;
+  kva-few = omega arith;
+  kva-least = omega arith;
+}
+
+unit-seen : (U volts kva low high : ℕ) → U ≤ 420000 → 0 < volts → 0 < high → 10 * volts ≤ 11 * low → 10 * high ≤ 11 * U → 0 < low → low ≤ 462000 → 10 ≤ kva → kva ≤ 1000000
+    → SeenRating U (volts * high) (kva * low)
+unit-seen U volts kva low high u₁ v₀ h₀ v₁ h₁ l₀ l₁ k₀ k₁ = record {
+  scale = low;
+  volts-some = mul-pos v₀ h₀;
+  volts-few = le-trans (mul-le-mul few-volts few-high) (lit≤ tt);
+  volts-most = from (U ∷ volts ∷ low ∷ high ∷ []) (mul-le-mul v₁ h₁) (search read depth 40 fits 20000) refl;
+  kva-some = mul-pos (le-trans (lit≤ tt) k₀) l₀;
+  kva-few = le-trans (mul-le-mul (le-refl 100) (mul-le-mul k₁ l₁)) (lit≤ tt);
+  kva-least = mul-le-mul k₀ (le-refl low);
+}
+  where
+    few-volts : volts ≤ 508200
+    few-volts = omega arith
+
+    few-high : high ≤ 462000
+    few-high = omega arith
+
+module _ {n : Network} (r : Rebuilt n) (j : ℕ) (l : j < length (n .sources)) (m : isMachine (sourceAt (n .sources) j) ≡ true) (g : hasGenerator (sourceAt (n .sources) j) ≡ true) where
+  pub seen-rating : SeenRating (voltsOf n (sourceAt (n .sources) j .bus)) (voltsSeen (sourceAt (n .sources) j)) (kvaSeen (sourceAt (n .sources) j))
+  unfolding voltsSeen kvaSeen
+  seen-rating =
+      let u = bus-volts r (sourceAt (n .sources) j .bus) (source-bus r j l) in
+      ⊎-elim
+      (λ (k : sourceAt (n .sources) j .kind ≡ 2).
+      let f = generator-ranges r j l k in
+      let t = rated r j l m k in
+      rw k (generator-seen _ _ _ (u .0) (u .1) (t .least) (t .most) (f .kVA) (f .kVA-most)))
+      (λ (k : sourceAt (n .sources) j .kind ≡ 5).
+      let f = unit-ranges r j l k in
+      let w = unit-range r j l m k in
+      rw (k, min-eq-left (volts-few _ _ (unit-volts r j l k .most) (f .low-most)), min-eq-left (high-few _ _ (rated-high r j l m k .most) (u .1)), min-eq-left (f .kVA-most), min-eq-left (le-trans (f .low-most) (lit≤ tt))) (unit-seen _ _ _ _ _ (u .1) (le-trans (lit≤ tt) (w .rated)) (w .high-some) (unit-volts r j l k .most) (rated-high r j l m k .most) (w .low-some) (f .low-most) (f .kVA) (f .kVA-most)))
+      (generator-cases (sourceAt (n .sources) j) g)
     where
-      some : (u v : ℕ) → 100 ≤ u → 9 * u ≤ 10 * v → 0 < v
-      some u v h k = omega arith
+      volts-few : (v low : ℕ) → 10 * v ≤ 11 * low → low ≤ 462000 → v ≤ 1000000
+      volts-few v low h k = omega arith
 
-  pub generator-volts : 10 * sourceAt (n .sources) j .f1 ≤ 11 * voltsOf n (sourceAt (n .sources) j .bus)
-  generator-volts = machine-volts r j l (rw g) .most
+      high-few : (v U : ℕ) → 10 * v ≤ 11 * U → U ≤ 420000 → v ≤ 1000000
+      high-few v U h k = omega arith
 
 -- ---- the driving voltage c·Un at bus b, in hundredths of a volt
 module _ {n : Network} (r : Rebuilt n) (b : ℕ) (l : b < length (n .buses)) where
@@ -196,16 +248,16 @@ small-share v Ub Uj re im den rt ru hv hb hy hr =
     five : rt * Ub ≤ 5 * (ru * Uj)
     five = fivefold Ub Uj rt ru hr
 
--- at the terminals of a generator of Ur rated volts, in steps of 1/40,960 of its rated current
-pub small-rated : (v Ub Uj re im den rt ru Ur kva : ℕ) → v ≤ 110 * Ub → (re + im) * (Uj * Uj) ≤ 2 ^ 38 * den → 9 ^ 8 * (rt * Ub) ≤ 11 ^ 8 * (ru * Uj) → 10 * Ur ≤ 11 * Uj → 10 ≤ kva
+-- at the terminals of a generator of Ur rated volts, seen with a scale of w, in steps of 1/40,960 of its rated current
+pub small-rated : (v Ub Uj re im den rt ru Ur kva w : ℕ) → v ≤ 110 * Ub → (re + im) * (Uj * Uj) ≤ 2 ^ 38 * den → 9 ^ 8 * (rt * Ub) ≤ 11 ^ 8 * (ru * Uj) → 100 * Ur ≤ 121 * (w * Uj) → 10 * w ≤ kva
     → v * v * 16777216 * (re * re + im * im) * (rt * Ur * (rt * Ur)) * 3 ≤ 2 ^ 100 * (30000 * (den * den) * (ru * (100 * kva) * (ru * (100 * kva))))
-small-rated v Ub Uj re im den rt ru Ur kva hv hy hr hu hk =
-    from-over (v ∷ Ub ∷ Uj ∷ re ∷ im ∷ den ∷ rt ∷ ru ∷ Ur ∷ kva ∷ []) 100 (lit< tt)
-    (300 * 16777216 * (re * re + im * im) * (rt * rt * (Ur * Ur)) ⋆ mul-le-mul hv hv
-    ⊹ 300 * 12100 * 16777216 * (re * re + im * im) * (Ur * Ur) ⋆ mul-le-mul five five
+small-rated v Ub Uj re im den rt ru Ur kva w hv hy hr hu hk =
+    from-over (v ∷ Ub ∷ Uj ∷ re ∷ im ∷ den ∷ rt ∷ ru ∷ Ur ∷ kva ∷ w ∷ []) 10000 (lit< tt)
+    (30000 * 16777216 * (re * re + im * im) * (rt * rt * (Ur * Ur)) ⋆ mul-le-mul hv hv
+    ⊹ 30000 * 12100 * 16777216 * (re * re + im * im) * (Ur * Ur) ⋆ mul-le-mul five five
     ⊹ 3 * 12100 * 25 * 16777216 * (re * re + im * im) * (ru * ru * (Uj * Uj)) ⋆ mul-le-mul hu hu
-    ⊹ 3 * 12100 * 25 * 121 * 16777216 * (ru * ru) ⋆ mul-le-mul hy hy
-    ⊹ 2 ^ 100 * 30000 * 1000000 * (den * den) * (ru * ru) ⋆ mul-le-mul hk hk)
+    ⊹ 3 * 12100 * 25 * 14641 * 16777216 * (ru * ru * (w * w)) ⋆ mul-le-mul hy hy
+    ⊹ 2 ^ 100 * 30000 * 100000000 * (den * den) * (ru * ru) ⋆ mul-le-mul hk hk)
     (search read depth 40 fits 20000) refl
   where
     five : rt * Ub ≤ 5 * (ru * Uj)

@@ -3,16 +3,17 @@
 use Prim.Native.Nat.{ℕ, _+_, _*_, _^_, _≤_, _<_}
 use mathlib.Core.Path.{_≡_, refl, _∙_}
 use mathlib.Core.Bool.{true, cond}
+use mathlib.Core.Logic.{⊎-elim}
 use native.Mathlib.Omega.{arith}
-use native.Mathlib.Nat.{le-refl, le-trans, mul-le-mul}
+use native.Mathlib.Nat.{le-trans}
 use lib.Dec.{ltb, lit≤}
 use lib.Ieee.{Float, nan}
 use lib.ListN.{length}
-use borrow.Author.Tests.{lt-ltb, eqb-true}
+use borrow.Author.Tests.{lt-ltb}
 use Rattle.enclosure.specs.Doubles.{doubles, inverted, ratio, unity, faintest, nought}
 use Rattle.enclosure.specs.declared.Complex.{Complex}
 use Rattle.enclosure.specs.laws.RootBounds.{RootHolds}
-use Rattle.tree.specs.Limits.{maxBuses, coveredBuses, ownUnits}
+use Rattle.tree.specs.Limits.{maxBuses, coveredBuses, machineUnits, ownUnits}
 use Rattle.tree.specs.Grid.{parentOf, timesSquare}
 use Rattle.tree.specs.Shares.{ratios, shareSquare}
 use Rattle.tree.specs.Ways.{dividerBy, dividerUp, dividerDown, ratioUp, ratioDown, dividersBy, ratiosBy, driveBy, strengthBy, shareSteps, ratedSteps}
@@ -29,7 +30,9 @@ use Rattle.sweep.specs.laws.Columns.{getD-column}
 use Rattle.network.specs.declared.study.Bus.{Bus}
 use Rattle.network.specs.declared.study.Source.{Source}
 use Rattle.network.specs.Network.{Network, busAt, sourceAt, ifTransformer, transformersOf}
-use Rattle.network.specs.SourceKinds.{isMachine, isGenerator}
+use Rattle.network.specs.SourceKinds.{isMachine, hasGenerator}
+use Rattle.network.specs.RoundedSourceKinds.{voltsSeen, kvaSeen}
+use Rattle.network.specs.laws.SourceKinds.{generator-cases}
 use Rattle.network.specs.Grid.{admittanceOf, gridOf}
 use Rattle.network.specs.Demand.{driving}
 use Rattle.network.specs.Doubles.{ownBy, branchesBy, machineBy, treeOf, crossingsBy, waysFrom}
@@ -37,7 +40,7 @@ use Rattle.network.specs.laws.Rebuilt.{Rebuilt}
 use Rattle.network.specs.laws.AcceptedRecords.{bus-volts, source-bus, few-buses}
 use Rattle.network.specs.laws.AcceptedTree.{voltsOf, sound, levels, near-branch, machine-near, machine-reactive}
 use Rattle.network.specs.laws.BusSums.{plain, own-near, own-reactive}
-use Rattle.network.specs.laws.ShareFacts.{machine-volts-square, machine-proper, machine-some, machine-least, machine-most, generator-kva, generator-rated, generator-volts, driving-some, driving-most, driving-square, transformers-most, ratio-above, ratio-below, transformers-more, small-share, small-rated}
+use Rattle.network.specs.laws.ShareFacts.{machine-volts-square, machine-proper, machine-some, machine-least, machine-most, SeenRating, seen-rating, driving-some, driving-most, driving-square, transformers-most, ratio-above, ratio-below, transformers-more, small-share, small-rated}
 use Rattle.network.specs.laws.Bridge.{number-all, shaped, branch-column, above-walk, below-walk}
 
 -- ---- the columns of the ways
@@ -99,12 +102,9 @@ module _ {n : Network} (r : Rebuilt n) where
           ∙ over-way-same (numberAt (treeOf (n .buses) .parents)) (parentOf (gridOf n)) _ _ _ _ nought (length (n .buses)) (shaped n few .parent) carried-up carried-down b j lb lj
 
 -- ---- the shares
--- a generator is a machine
-generator-machine : (p : Source) → isGenerator p ≡ true → isMachine p ≡ true
-generator-machine p g = rw (eqb-true (p .kind) 2 g)
-
-rated-few : (u v : ℕ) → 10 * u ≤ 11 * v → v ≤ 420000 → u ≤ 2 ^ 53
-rated-few u v h k = omega arith
+-- what has a generator is a machine
+generator-machine : (p : Source) → hasGenerator p ≡ true → isMachine p ≡ true
+generator-machine p g = ⊎-elim (λ (k : p .kind ≡ 2). rw k) (λ (k : p .kind ≡ 5). rw k) (generator-cases p g)
 
 module _ {n : Network} (r : Rebuilt n) (b : ℕ) (lb : b < length (n .buses)) where
   covered : length (n .buses) ≤ coveredBuses
@@ -141,7 +141,7 @@ module _ {n : Network} (r : Rebuilt n) (b : ℕ) (lb : b < length (n .buses)) wh
         let lj = source-bus r j l in
         rw (ways-ratios r b lb (sourceAt (n .sources) j .bus) lj, ways-dividers r b lb (sourceAt (n .sources) j .bus) lj)
         (share-bounds (gridOf n) (voltsOf n) (sound r) (levels r) (plain r) covered (branchesBy n) (ownBy n) ownUnits (lit≤ tt) branches-near (λ c k. own-near r c)
-        (driving n b) (driving-some r b lb) (driving-square r b lb) 45 _ _ (lit≤ tt) (h .0) (h .1) (machine-some r j l m) (machine-least r j l m, machine-most r j l m) b _ lb lj (own-reactive r j l m) small)
+        (driving n b) (driving-some r b lb) (driving-square r b lb) machineUnits _ _ (lit≤ tt) (h .0) (h .1) (machine-some r j l m) (machine-least r j l m, machine-most r j l m) b _ lb lj (own-reactive r j l m) small)
 
     pub machine-share-proper : 0 < shareSquare (gridOf n) (driving n b) (admittanceOf n (sourceAt (n .sources) j)) b (sourceAt (n .sources) j .bus) .under
     machine-share-proper = share-proper (gridOf n) (sound r .tree) (sound-proper (gridOf n) (sound r) (plain r)) (driving n b) _ b _ (machine-proper r j l m) lb (source-bus r j l) (own-reactive r j l m)
@@ -156,33 +156,40 @@ module _ {n : Network} (r : Rebuilt n) (b : ℕ) (lb : b < length (n .buses)) wh
         let lj = source-bus r j l in
         rw (ways-ratios r b lb (sourceAt (n .sources) j .bus) lj, ways-dividers r b lb (sourceAt (n .sources) j .bus) lj)
         (share-few (gridOf n) (voltsOf n) (sound r) (levels r) (plain r) covered (branchesBy n) (ownBy n) ownUnits (lit≤ tt) branches-near (λ c k. own-near r c)
-        (driving n b) (driving-some r b lb) (driving-square r b lb) 45 _ _ (lit≤ tt) (h .0) (h .1) (machine-some r j l m) (machine-least r j l m, machine-most r j l m) b _ lb lj (own-reactive r j l m) small)
+        (driving n b) (driving-some r b lb) (driving-square r b lb) machineUnits _ _ (lit≤ tt) (h .0) (h .1) (machine-some r j l m) (machine-least r j l m, machine-most r j l m) b _ lb lj (own-reactive r j l m) small)
 
-  module _ (j : ℕ) (l : j < length (n .sources)) (g : isGenerator (sourceAt (n .sources) j) ≡ true) where
+  module _ (j : ℕ) (l : j < length (n .sources)) (g : hasGenerator (sourceAt (n .sources) j) ≡ true) where
     machine : isMachine (sourceAt (n .sources) j) ≡ true
     machine = generator-machine (sourceAt (n .sources) j) g
 
-    small-over : ratedFactor (driving n b) (admittanceOf n (sourceAt (n .sources) j)) (ratios (gridOf n) b (sourceAt (n .sources) j .bus)) (sourceAt (n .sources) j .f1) (sourceAt (n .sources) j .f2) .top
-        ≤ 2 ^ 100 * ratedFactor (driving n b) (admittanceOf n (sourceAt (n .sources) j)) (ratios (gridOf n) b (sourceAt (n .sources) j .bus)) (sourceAt (n .sources) j .f1) (sourceAt (n .sources) j .f2) .under
+    abbrev volts : ℕ
+    volts = voltsSeen (sourceAt (n .sources) j)
+
+    abbrev kva : ℕ
+    kva = kvaSeen (sourceAt (n .sources) j)
+
+    rating : SeenRating (voltsOf n (sourceAt (n .sources) j .bus)) volts kva
+    rating = seen-rating r j l machine g
+
+    small-over : ratedFactor (driving n b) (admittanceOf n (sourceAt (n .sources) j)) (ratios (gridOf n) b (sourceAt (n .sources) j .bus)) volts kva .top
+        ≤ 2 ^ 100 * ratedFactor (driving n b) (admittanceOf n (sourceAt (n .sources) j)) (ratios (gridOf n) b (sourceAt (n .sources) j .bus)) volts kva .under
     small-over =
-        small-rated (driving n b) (voltsOf n b) (voltsOf n (sourceAt (n .sources) j .bus)) _ _ _ _ _ (sourceAt (n .sources) j .f1) (sourceAt (n .sources) j .f2) (driving-most r b lb) (machine-volts-square r j l machine)
-        (ratios-eight (sourceAt (n .sources) j .bus) (source-bus r j l) .0) (generator-volts r j l g) (generator-kva r j l g .0)
+        small-rated (driving n b) (voltsOf n b) (voltsOf n (sourceAt (n .sources) j .bus)) _ _ _ _ _ volts kva (rating .scale) (driving-most r b lb) (machine-volts-square r j l machine)
+        (ratios-eight (sourceAt (n .sources) j .bus) (source-bus r j l) .0) (rating .volts-most) (rating .kva-least)
 
     -- THE SHARE OF A GENERATOR AT ITS TERMINALS over its rated current, in steps of 1/40,960
-    pub generator-rated-share : RootHolds (1677721600 * ratedSquare (gridOf n) (driving n b) (admittanceOf n (sourceAt (n .sources) j)) b (sourceAt (n .sources) j .bus) (sourceAt (n .sources) j .f1) (sourceAt (n .sources) j .f2) .top)
-        (ratedSquare (gridOf n) (driving n b) (admittanceOf n (sourceAt (n .sources) j)) b (sourceAt (n .sources) j .bus) (sourceAt (n .sources) j .f1) (sourceAt (n .sources) j .f2) .under)
-        (ratedSteps (strengthBy (driveBy (driving n b)) (machineBy n (sourceAt (n .sources) j))) (factorAt (waysFrom n b .reach .ratios) (sourceAt (n .sources) j .bus)) (factorAt (waysFrom n b .reach .dividers) (sourceAt (n .sources) j .bus)) (sourceAt (n .sources) j .f1) (sourceAt (n .sources) j .f2))
+    pub generator-rated-share : RootHolds (1677721600 * ratedSquare (gridOf n) (driving n b) (admittanceOf n (sourceAt (n .sources) j)) b (sourceAt (n .sources) j .bus) volts kva .top)
+        (ratedSquare (gridOf n) (driving n b) (admittanceOf n (sourceAt (n .sources) j)) b (sourceAt (n .sources) j .bus) volts kva .under)
+        (ratedSteps (strengthBy (driveBy (driving n b)) (machineBy n (sourceAt (n .sources) j))) (factorAt (waysFrom n b .reach .ratios) (sourceAt (n .sources) j .bus)) (factorAt (waysFrom n b .reach .dividers) (sourceAt (n .sources) j .bus)) volts kva)
     generator-rated-share =
         let h = machine-near r j l machine in
         let lj = source-bus r j l in
-        let k = generator-kva r j l g in
         rw (ways-ratios r b lb (sourceAt (n .sources) j .bus) lj, ways-dividers r b lb (sourceAt (n .sources) j .bus) lj)
         (terminal-bounds (gridOf n) (voltsOf n) (sound r) (levels r) (plain r) covered (branchesBy n) (ownBy n) ownUnits (lit≤ tt) branches-near (λ c k. own-near r c)
-        (driving n b) (driving-some r b lb) (driving-square r b lb) 45 _ _ (lit≤ tt) (h .0) (h .1) (machine-some r j l machine) (machine-least r j l machine, machine-most r j l machine) b _ lb lj (own-reactive r j l machine)
-        (sourceAt (n .sources) j .f1) (sourceAt (n .sources) j .f2) (generator-rated r j l g) (rated-few _ _ (generator-volts r j l g) (bus-volts r _ lj .1)) (le-trans (lit≤ tt) (k .0))
-        (le-trans (mul-le-mul (le-refl 100) (k .1)) (lit≤ tt)) small-over)
+        (driving n b) (driving-some r b lb) (driving-square r b lb) machineUnits _ _ (lit≤ tt) (h .0) (h .1) (machine-some r j l machine) (machine-least r j l machine, machine-most r j l machine) b _ lb lj (own-reactive r j l machine)
+        volts kva (rating .volts-some) (rating .volts-few) (rating .kva-some) (rating .kva-few) small-over)
 
-    pub generator-rated-proper : 0 < ratedSquare (gridOf n) (driving n b) (admittanceOf n (sourceAt (n .sources) j)) b (sourceAt (n .sources) j .bus) (sourceAt (n .sources) j .f1) (sourceAt (n .sources) j .f2) .under
+    pub generator-rated-proper : 0 < ratedSquare (gridOf n) (driving n b) (admittanceOf n (sourceAt (n .sources) j)) b (sourceAt (n .sources) j .bus) volts kva .under
     generator-rated-proper =
-        rated-proper (gridOf n) (sound r .tree) (sound-proper (gridOf n) (sound r) (plain r)) (driving n b) _ b _ (sourceAt (n .sources) j .f1) (sourceAt (n .sources) j .f2) (machine-proper r j l machine) lb (source-bus r j l) (own-reactive r j l machine)
-        (le-trans (lit≤ tt) (generator-kva r j l g .0))
+        rated-proper (gridOf n) (sound r .tree) (sound-proper (gridOf n) (sound r) (plain r)) (driving n b) _ b _ volts kva (machine-proper r j l machine) lb (source-bus r j l) (own-reactive r j l machine)
+        (rating .kva-some)

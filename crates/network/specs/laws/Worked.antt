@@ -22,7 +22,7 @@ use Rattle.network.specs.declared.query.Verdict.the-variants.{Close}
 use Rattle.network.specs.Demand.{verdictOn, Figures, NotAbove, NotBelow, driving, MachinesHold, ConvertersHold}
 use Rattle.network.specs.Network.{Network, openOf, closedAs, along}
 use Rattle.network.specs.Records.{branchOk}
-use Rattle.network.specs.SourceKinds.{fieldsOk, impedanceOf}
+use Rattle.network.specs.SourceKinds.{rangesOk, fieldsOk, impedanceOf}
 use Rattle.network.specs.Grounds.{depthOk, busRecordNumber, busNumberIn, afterBusIn, sourceRecordNumber, sourceNumberIn, afterSourceIn, closeNumber, afterClose, Call, starting, addingBus, addingSource, closing, run}
 use Rattle.network.specs.laws.Rebuilt.{run-rebuilt}
 use Rattle.network.specs.Grid.{branchOf, aboveOf, belowOf, impedanceAt, convertersAt}
@@ -38,13 +38,13 @@ abbrev second : Bus
 second = record { parent = 0; volts = 10000; kind = 1; f1 = 0; f2 = 1000; f3 = 1100; f4 = 1; f5 = 0; rating = 7898; «peak_rating» = 3000000 }
 
 abbrev infeed : Source
-infeed = record { kind = 1; bus = 0; f1 = 100000; f2 = 0; f3 = 0; f4 = 0; f5 = 0 }
+infeed = record { kind = 1; bus = 0; f1 = 100000; f2 = 0; f3 = 0; f4 = 0; f5 = 0; low = 0; high = 0; «transformer_kva» = 0; uk = 0; ur = 0 }
 
 abbrev machine : Source
-machine = record { kind = 2; bus = 1; f1 = 10000; f2 = 10000; f3 = 20000; f4 = 0; f5 = 100 }
+machine = record { kind = 2; bus = 1; f1 = 10000; f2 = 10000; f3 = 20000; f4 = 0; f5 = 100; low = 0; high = 0; «transformer_kva» = 0; uk = 0; ur = 0 }
 
 abbrev solar : Source
-solar = record { kind = 4; bus = 1; f1 = 1000; f2 = 200; f3 = 0; f4 = 0; f5 = 0 }
+solar = record { kind = 4; bus = 1; f1 = 1000; f2 = 200; f3 = 0; f4 = 0; f5 = 0; low = 0; high = 0; «transformer_kva» = 0; uk = 0; ur = 0 }
 
 abbrev two : Network
 two = closedAs true (openOf 10 (first ∷ second ∷ []) (infeed ∷ machine ∷ solar ∷ []))
@@ -54,7 +54,7 @@ twoCalls = starting 10 ∷ addingBus first ∷ addingBus second ∷ addingSource
 
 -- the calls that make it are accepted
 two-made : run twoCalls ≡ two
-unfolding run afterBusIn busNumberIn busRecordNumber branchOk depthOk along afterSourceIn sourceNumberIn sourceRecordNumber fieldsOk afterClose closeNumber
+unfolding run afterBusIn busNumberIn busRecordNumber branchOk depthOk along afterSourceIn sourceNumberIn sourceRecordNumber rangesOk fieldsOk afterClose closeNumber
 two-made = refl
 
 impedances : (impedanceAt two 0 .re ≡ 0) × (1000 * impedanceAt two 0 .im ≡ 825 * impedanceAt two 0 .den) × (impedanceAt two 1 .re ≡ 0) × (10 * impedanceAt two 1 .im ≡ 11 * impedanceAt two 1 .den)

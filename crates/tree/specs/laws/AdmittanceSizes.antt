@@ -1,17 +1,18 @@
 -- Sizes of exact points, from above and from below, and the largest admittance that can be seen at a bus.
 -- Assumes nothing.
 use Prim.Native.Nat.{ℕ, zero, suc, _+_, _*_, _≤_, _<_}
-use mathlib.Core.Path.{_≡_, refl}
+use mathlib.Core.Path.{_≡_, refl, sym}
 use mathlib.Core.Bool.{Bool, true, false, cond}
 use mathlib.Core.List.{[], _∷_}
 use mathlib.Core.Logic.{_⊎_, inl, inr}
 use native.Mathlib.Omega.{arith}
-use native.Mathlib.Nat.{mul-suc}
+use native.Mathlib.Nat.{mul-suc, le-of-eq}
 use lib.Dec.{ltb}
 use borrow.Author.Tests.{eqb-false}
 use Rattle.algebra.specs.Polynomial.{two-sq}
-use Rattle.algebra.specs.Reading.{from, read, _⊹_, _⋆_}
+use Rattle.algebra.specs.Reading.{from, from-over, read, _⊹_, _⋆_}
 use Rattle.enclosure.specs.Exact.{Point, nothing, isNothing, sum, turned, inverse, exact}
+use Rattle.enclosure.specs.laws.Nearness.{Same}
 use Rattle.tree.specs.Grid.{joined, neighbour, sumOver, Grid, parentOf, timesSquare, through, seenBy, seen}
 use Rattle.tree.specs.laws.Walk.{neighbour-joined}
 use Rattle.tree.specs.laws.Grid.{through-cases}
@@ -29,6 +30,17 @@ abbrev pub Low : ℕ → Point → Type 0
 Low K x = (x .re + x .im ≡ 0) ⊎ (x .den ≤ K * (x .re + x .im))
 
 -- ---- from above
+-- equal fractions have the same bounds
+pub most-same : (Q P : ℕ) (x y : Point) → 0 < x .den → Same x y → AtMost Q P x → AtMost Q P y
+most-same Q P x y z s h =
+    from-over (Q ∷ P ∷ x .re ∷ x .im ∷ x .den ∷ y .re ∷ y .im ∷ y .den ∷ []) (x .den) z
+    (Q ⋆ le-of-eq (sym (s .re)) ⊹ Q ⋆ le-of-eq (sym (s .im)) ⊹ y .den ⋆ h) (search read depth 40 fits 20000) refl
+
+pub least-same : (Q P : ℕ) (x y : Point) → 0 < x .den → Same x y → AtLeast Q P x → AtLeast Q P y
+least-same Q P x y z s h =
+    from-over (Q ∷ P ∷ x .re ∷ x .im ∷ x .den ∷ y .re ∷ y .im ∷ y .den ∷ []) (x .den) z
+    (y .den ⋆ h ⊹ P ⋆ le-of-eq (s .re) ⊹ P ⋆ le-of-eq (s .im)) (search read depth 40 fits 20000) refl
+
 pub most-more : (Q j k : ℕ) (x : Point) → j ≤ k → AtMost Q j x → AtMost Q k x
 most-more Q j k x l h = from (Q ∷ j ∷ k ∷ x .re ∷ x .im ∷ x .den ∷ []) (h ⊹ x .den ⋆ l) (search read depth 40 fits 20000) refl
 

@@ -26,7 +26,7 @@ example =
     closedAs true
     (openOf 6
     (record { parent = 0; volts = 400; kind = 0; f1 = 0; f2 = 0; f3 = 0; f4 = 0; f5 = 0; rating = 1; «peak_rating» = 2 } ∷ [])
-    (record { kind = 1; bus = 0; f1 = 5000; f2 = 10; f3 = 0; f4 = 0; f5 = 0 } ∷ []))
+    (record { kind = 1; bus = 0; f1 = 5000; f2 = 10; f3 = 0; f4 = 0; f5 = 0; low = 0; high = 0; «transformer_kva» = 0; uk = 0; ur = 0 } ∷ []))
 
 worked : textOf example
     ≡ 83 ∷ 44 ∷ 54 ∷ 13 ∷ 10

@@ -1,49 +1,21 @@
--- `fields_ok` meets its contract, kind by kind.
-use borrow.Author.Tests.{ne-eqb}
+-- `fields_ok` meets its contract, by what its tests ensure.
 use Rattle.network.specs.SourceKinds.{fieldsOk}
 use borrow.Author.Needs.{needs}
 use Rattle.network.proofs.source_kinds.fields_ok.Statement.{statement}
 use Rattle.network.proofs.source_kinds.fields_ok.Tie as tie
 
-feeder-ok-requires : tie.Need-feeder-ok-requires
-feeder-ok-requires c κs = search needs
+ranges-ok-requires : tie.Need-ranges-ok-requires
+ranges-ok-requires c κs = search needs
 
-generator-ok-requires : tie.Need-generator-ok-requires
-generator-ok-requires c κs = search needs
+is-unit-requires : tie.Need-is-unit-requires
+is-unit-requires c κs = search needs
 
-motor-ok-requires : tie.Need-motor-ok-requires
-motor-ok-requires c κs = search needs
-
-converter-ok-requires : tie.Need-converter-ok-requires
-converter-ok-requires c κs = search needs
+no-transformer-requires : tie.Need-no-transformer-requires
+no-transformer-requires c κs = search needs
 
 returns : tie.Need-returns
 unfolding fieldsOk
-returns c = rw (c .before .match .keys1) (c .feeder-ok .ensures)
-
-returns-2 : tie.Need-returns-2
-unfolding fieldsOk
-returns-2 c = rw (c .before .match .keys2) (c .generator-ok .ensures)
-
-returns-3 : tie.Need-returns-3
-unfolding fieldsOk
-returns-3 c = rw (c .before .match .keys3) (c .motor-ok .ensures)
-
-returns-4 : tie.Need-returns-4
-unfolding fieldsOk
-returns-4 c =
-    let none = c .before .match .rest in
-    rw (ne-eqb _ 1 (none .0 .0 .1), ne-eqb _ 2 (none .0 .1), ne-eqb _ 3 (none .1)) (c .converter-ok .ensures)
+returns c = rw (c .no-transformer .ensures, c .before .is-unit .ensures, c .before .before .ranges-ok .ensures)
 
 pub fields-ok-spec : {M : Type 1} → statement M
-fields-ok-spec =
-    tie.close
-    (tie.spec
-    feeder-ok-requires
-    generator-ok-requires
-    motor-ok-requires
-    converter-ok-requires
-    returns
-    returns-2
-    returns-3
-    returns-4)
+fields-ok-spec = tie.close (tie.spec ranges-ok-requires is-unit-requires no-transformer-requires returns)

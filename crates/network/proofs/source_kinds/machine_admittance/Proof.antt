@@ -23,6 +23,12 @@ motor-requires c κs = search needs
 inverse-requires-3 : tie.Need-inverse-requires-3
 inverse-requires-3 c κs = search needs
 
+unit-impedance-requires : tie.Need-unit-impedance-requires
+unit-impedance-requires c κs = search needs
+
+inverse-requires-4 : tie.Need-inverse-requires-4
+inverse-requires-4 c κs = search needs
+
 nothing-requires : tie.Need-nothing-requires
 nothing-requires c κs = search needs
 
@@ -40,8 +46,13 @@ returns-3 c = rw (c .before .before .match .keys3, ← c .before .motor .ensures
 
 returns-4 : tie.Need-returns-4
 unfolding admittanceBy
-returns-4 c =
-    rw (ne-eqb _ 1 (c .before .match .rest .0 .0 .1), ne-eqb _ 2 (c .before .match .rest .0 .1), ne-eqb _ 3 (c .before .match .rest .1)) (c .nothing .ensures)
+returns-4 c = rw (c .before .before .match .keys4, ← c .before .unit-impedance .ensures) (c .inverse4 .ensures)
+
+returns-5 : tie.Need-returns-5
+unfolding admittanceBy
+returns-5 c =
+    let none = c .before .match .rest in
+    rw (ne-eqb _ 1 (none .0 .0 .0 .1), ne-eqb _ 2 (none .0 .0 .1), ne-eqb _ 3 (none .0 .1), ne-eqb _ 5 (none .1)) (c .nothing .ensures)
 
 pub machine-admittance-spec : {M : Type 1} → statement M
 machine-admittance-spec =
@@ -53,8 +64,11 @@ machine-admittance-spec =
     inverse-requires-2
     motor-requires
     inverse-requires-3
+    unit-impedance-requires
+    inverse-requires-4
     nothing-requires
     returns
     returns-2
     returns-3
-    returns-4)
+    returns-4
+    returns-5)
