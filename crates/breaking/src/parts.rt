@@ -59,7 +59,8 @@ fn share_steps(k: f64, ratio: f64, divider: f64) -> u64
 
 // A generator's share at its terminals, in steps of 1/40,960 of its rated current.
 fn rated_steps(k: f64, ratio: f64, divider: f64, volts: u64, kva: u64) -> u64
-    requires { ⌜ kva ≤ 2 ^ 52 ⌝ }
+    requires { ⌜ volts ≤ 2 ^ 40 ⌝ }
+    requires { ⌜ kva ≤ 2 ^ 40 ⌝ }
     ensures { λ r. ⌜ r ≡ ratedSteps k ratio divider volts kva ⌝ }
 {
     let hundred_kva = 100 * kva;

@@ -13,7 +13,7 @@ use Rattle.enclosure.specs.Exact.{ofNat}
 use Rattle.enclosure.specs.laws.Root.{root-le}
 use Rattle.enclosure.specs.laws.WholeF64.{whole-few, plus-whole}
 use Rattle.breaking.specs.laws.FigureSums.{Rest, sumOf, figureOf, figure-at-most, figure-at-least, steps-most}
-use Rattle.network.specs.SourceKinds.{isGenerator}
+use Rattle.network.specs.SourceKinds.{hasGenerator}
 use Rattle.network.specs.Network.{Network, sourceAt}
 use Rattle.network.specs.Demand.{Demand}
 use Rattle.network.specs.Query.{amperesGiven}
@@ -97,7 +97,7 @@ module _ {n : Network} (r : Rebuilt n) (c : n .closed ≡ true) (b : ℕ) (lb : 
     );
     figure-whole = (figure-is, figure-few);
     shares = λ j l g. numbers-hold r b lb j l g;
-    others = λ j l g. other-by (isGenerator (sourceAt (n .sources) j)) _ g;
+    others = λ j l g. other-by (hasGenerator (sourceAt (n .sources) j)) _ g;
     beyond = (laid-length (partAt n b delay) (n .sources) lent room, laid-beyond (partAt n b delay) (n .sources) lent room);
     proper = λ j l. part-holds r b lb j l delay .proper;
     some = λ j l m. rw m (machine-share-some r b lb j l m);

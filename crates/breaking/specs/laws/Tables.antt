@@ -20,7 +20,8 @@ use Rattle.tree.specs.Ways.{shareSteps, ratedSteps}
 use Rattle.network.specs.declared.study.Source.{Source}
 use Rattle.network.specs.Network.{sourceAt, blankSource}
 use Rattle.network.specs.laws.Arrays.{sets-append}
-use Rattle.network.specs.SourceKinds.{isGenerator, isConverter}
+use Rattle.network.specs.SourceKinds.{hasGenerator, isConverter}
+use Rattle.network.specs.RoundedSourceKinds.{voltsSeen, kvaSeen}
 use Rattle.breaking.specs.declared.parts.Part.{Part}
 use Rattle.breaking.specs.Breaking.{laidOver}
 use Rattle.breaking.specs.Doubles.{weighed, generatorPart, partBy, partOf, tableOf, stepsFrom}
@@ -48,10 +49,10 @@ weighed-few w n hw hn =
 
 pub part-few : (delay : ℕ) (k ρ D : Float) (p : Source) → partBy delay k ρ D p .steps ≤ 2 ^ 53
 unfolding partBy generatorPart
-part-few delay k ρ D p = go (isGenerator p) (isConverter p)
+part-few delay k ρ D p = go (hasGenerator p) (isConverter p)
   where
     go : (s t : Bool) → cond s (generatorPart delay k ρ D p) (cond t (record { lower = nought; upper = nought; steps = 0 }) (record { lower = nought; upper = nought; steps = shareSteps k ρ D + 1 })) .steps ≤ 2 ^ 53
-    go true t = weighed-few (muBy delay (ratedSteps k ρ D (p .f1) (p .f2))) (shareSteps k ρ D + 1) (mu-by-most delay _) (omega (arith, share-few k ρ D)) .1
+    go true t = weighed-few (muBy delay (ratedSteps k ρ D (voltsSeen p) (kvaSeen p))) (shareSteps k ρ D + 1) (mu-by-most delay _) (omega (arith, share-few k ρ D)) .1
     go false true = lit≤ tt
     go false false = omega (arith, share-few k ρ D)
 

@@ -160,27 +160,43 @@ unit-seen U volts kva low high u₁ v₀ h₀ v₁ h₁ l₀ l₁ k₀ k₁ = re
     few-high : high ≤ 462000
     few-high = omega arith
 
-module _ {n : Network} (r : Rebuilt n) (j : ℕ) (l : j < length (n .sources)) (m : isMachine (sourceAt (n .sources) j) ≡ true) (g : hasGenerator (sourceAt (n .sources) j) ≡ true) where
-  pub seen-rating : SeenRating (voltsOf n (sourceAt (n .sources) j .bus)) (voltsSeen (sourceAt (n .sources) j)) (kvaSeen (sourceAt (n .sources) j))
+module _ {n : Network} (r : Rebuilt n) (j : ℕ) (l : j < length (n .sources)) (m : isMachine (sourceAt (n .sources) j) ≡ true) where
+  -- these are the record's own of a generator, and products of a unit's
+  pub seen-generator : sourceAt (n .sources) j .kind ≡ 2
+      → (voltsSeen (sourceAt (n .sources) j) ≡ sourceAt (n .sources) j .f1) × (kvaSeen (sourceAt (n .sources) j) ≡ sourceAt (n .sources) j .f2)
   unfolding voltsSeen kvaSeen
-  seen-rating =
-      let u = bus-volts r (sourceAt (n .sources) j .bus) (source-bus r j l) in
-      ⊎-elim
-      (λ (k : sourceAt (n .sources) j .kind ≡ 2).
-      let f = generator-ranges r j l k in
-      let t = rated r j l m k in
-      rw k (generator-seen _ _ _ (u .0) (u .1) (t .least) (t .most) (f .kVA) (f .kVA-most)))
-      (λ (k : sourceAt (n .sources) j .kind ≡ 5).
+  seen-generator k = (rw k, rw k)
+
+  pub seen-unit : sourceAt (n .sources) j .kind ≡ 5
+      → (voltsSeen (sourceAt (n .sources) j) ≡ sourceAt (n .sources) j .f1 * sourceAt (n .sources) j .high)
+      × (kvaSeen (sourceAt (n .sources) j) ≡ sourceAt (n .sources) j .f2 * sourceAt (n .sources) j .low)
+  unfolding voltsSeen kvaSeen
+  seen-unit k =
       let f = unit-ranges r j l k in
-      let w = unit-range r j l m k in
-      rw (k, min-eq-left (volts-few _ _ (unit-volts r j l k .most) (f .low-most)), min-eq-left (high-few _ _ (rated-high r j l m k .most) (u .1)), min-eq-left (f .kVA-most), min-eq-left (le-trans (f .low-most) (lit≤ tt))) (unit-seen _ _ _ _ _ (u .1) (le-trans (lit≤ tt) (w .rated)) (w .high-some) (unit-volts r j l k .most) (rated-high r j l m k .most) (w .low-some) (f .low-most) (f .kVA) (f .kVA-most)))
-      (generator-cases (sourceAt (n .sources) j) g)
+      let u = bus-volts r (sourceAt (n .sources) j .bus) (source-bus r j l) in (
+        rw (k, min-eq-left (volts-few _ _ (unit-volts r j l k .most) (f .low-most)), min-eq-left (high-few _ _ (rated-high r j l m k .most) (u .1))),
+        rw (k, min-eq-left (f .kVA-most), min-eq-left (le-trans (f .low-most) (lit≤ tt))),
+      )
     where
       volts-few : (v low : ℕ) → 10 * v ≤ 11 * low → low ≤ 462000 → v ≤ 1000000
       volts-few v low h k = omega arith
 
       high-few : (v U : ℕ) → 10 * v ≤ 11 * U → U ≤ 420000 → v ≤ 1000000
       high-few v U h k = omega arith
+
+  pub seen-rating : hasGenerator (sourceAt (n .sources) j) ≡ true → SeenRating (voltsOf n (sourceAt (n .sources) j .bus)) (voltsSeen (sourceAt (n .sources) j)) (kvaSeen (sourceAt (n .sources) j))
+  seen-rating g =
+      let u = bus-volts r (sourceAt (n .sources) j .bus) (source-bus r j l) in
+      ⊎-elim
+      (λ (k : sourceAt (n .sources) j .kind ≡ 2).
+      let f = generator-ranges r j l k in
+      let t = rated r j l m k in
+      rw (seen-generator k .0, seen-generator k .1) (generator-seen _ _ _ (u .0) (u .1) (t .least) (t .most) (f .kVA) (f .kVA-most)))
+      (λ (k : sourceAt (n .sources) j .kind ≡ 5).
+      let f = unit-ranges r j l k in
+      let w = unit-range r j l m k in
+      rw (seen-unit k .0, seen-unit k .1) (unit-seen _ _ _ _ _ (u .1) (le-trans (lit≤ tt) (w .rated)) (w .high-some) (unit-volts r j l k .most) (rated-high r j l m k .most) (w .low-some) (f .low-most) (f .kVA) (f .kVA-most)))
+      (generator-cases (sourceAt (n .sources) j) g)
 
 -- ---- the driving voltage c·Un at bus b, in hundredths of a volt
 module _ {n : Network} (r : Rebuilt n) (b : ℕ) (l : b < length (n .buses)) where

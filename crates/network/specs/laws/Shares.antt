@@ -103,7 +103,7 @@ module _ {n : Network} (r : Rebuilt n) where
 
 -- ---- the shares
 -- what has a generator is a machine
-generator-machine : (p : Source) → hasGenerator p ≡ true → isMachine p ≡ true
+pub generator-machine : (p : Source) → hasGenerator p ≡ true → isMachine p ≡ true
 generator-machine p g = ⊎-elim (λ (k : p .kind ≡ 2). rw k) (λ (k : p .kind ≡ 5). rw k) (generator-cases p g)
 
 module _ {n : Network} (r : Rebuilt n) (b : ℕ) (lb : b < length (n .buses)) where

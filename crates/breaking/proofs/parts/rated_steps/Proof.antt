@@ -12,11 +12,12 @@ mul-hundred-kva : tie.Need-mul-hundred-kva
 mul-hundred-kva c = search needs
 
 int-to-float-t : tie.Need-int-to-float-t
-int-to-float-t c = search needs
+unfolding inFloat
+int-to-float-t c = le→leb (c .before .args .volts) (2 ^ 53) (omega arith)
 
 int-to-float-t-2 : tie.Need-int-to-float-t-2
 unfolding inFloat
-int-to-float-t-2 c = let h : c .before .before .args .kva < 2 ^ 32 = search needs in le→leb (100 * c .before .before .args .kva) (2 ^ 53) (omega arith)
+int-to-float-t-2 c = le→leb (100 * c .before .before .args .kva) (2 ^ 53) (omega arith)
 
 int-to-float-root-fine : tie.Need-int-to-float-root-fine
 int-to-float-root-fine c = search needs
