@@ -108,8 +108,11 @@ unfoldable pub rangesOk : Source → Bool
 rangesOk p = byKind p (all (feederTests p)) (all (generatorTests p)) (all (motorTests p)) (all (unitTests p)) (all (converterTests p))
 
 -- "unused ones 0": the five fields of a transformer, which a unit alone has
+abbrev pub noTransformerTests : Source → List Bool
+noTransformerTests p = eqb (p .low) 0 ∷ eqb (p .high) 0 ∷ eqb (p .«transformer_kva») 0 ∷ eqb (p .uk) 0 ∷ eqb (p .ur) 0 ∷ []
+
 abbrev pub noTransformer : Source → Bool
-noTransformer p = all (eqb (p .low) 0 ∷ eqb (p .high) 0 ∷ eqb (p .«transformer_kva») 0 ∷ eqb (p .uk) 0 ∷ eqb (p .ur) 0 ∷ [])
+noTransformer p = all (noTransformerTests p)
 
 -- "12 source field out of range, or unused and not 0."
 unfoldable pub fieldsOk : Source → Bool

@@ -1,6 +1,6 @@
 -- From a row's bytes to what it says: its letter, its comma, and the numbers after them.
 use mathlib.Core.Path.{_≡_, refl, ap, sym, _∙_}
-use mathlib.Core.Bool.{Bool, true, false, _&&_}
+use mathlib.Core.Bool.{Bool, true, false, _&&_, _||_}
 use mathlib.Core.List.{List, [], _∷_}
 use Prim.Native.Nat.{ℕ, _≤_, _<_}
 use native.Mathlib.Omega.{arith}
@@ -11,7 +11,7 @@ use lib.Seq.{length-take-le, getD-take}
 use Rattle.network.specs.laws.Tests.{by-test, both-true}
 use Rattle.reader.specs.declared.Numbers.{Numbers}
 use Rattle.reader.specs.declared.Row.the-variants.{Start, WithBus, WithSource, Malformed}
-use Rattle.reader.specs.File.{busFields, sourceFields, mostFields, busCountOk, sourceCountOk, comma, letterS, letterB, letterP, fields, allNumbers, amounts, busOf, sourceOf, recordOf, fieldsRow, rowOf}
+use Rattle.reader.specs.File.{busFields, sourceFields, shortSourceFields, mostFields, busCountOk, sourceCountOk, comma, letterS, letterB, letterP, fields, allNumbers, amounts, busOf, sourceOf, recordOf, fieldsRow, rowOf}
 use Rattle.reader.specs.Collected.{Filled}
 use Rattle.reader.specs.laws.Collected.{Collected}
 
@@ -45,7 +45,7 @@ module _ (letter count : ℕ) (v : List ℕ) (few : count ≤ mostFields) (fille
 
   pub source-row : (eqb letter letterB && busCountOk count) ≡ false → (eqb letter letterP && sourceCountOk count) ≡ true → recordOf false letter (take count v) ≡ WithSource (sourceOf v)
   unfolding recordOf
-  source-row b e = rw (counted, b, e, same 0, same 1, same 2, same 3, same 4, same 5, same 6)
+  source-row b e = rw (counted, b, e, same 0, same 1, same 2, same 3, same 4, same 5, same 6, same 7, same 8, same 9, same 10, same 11)
 
   pub no-record-row : (eqb letter letterB && busCountOk count) ≡ false → (eqb letter letterP && sourceCountOk count) ≡ false → recordOf false letter (take count v) ≡ Malformed
   unfolding recordOf
@@ -67,8 +67,11 @@ too-many true letter v h = rw (last-false (eqb letter letterS) (ne-eqb (length v
 too-many false letter v h =
     rw (
       last-false (eqb letter letterB) (ne-eqb (length v) busFields (λ e. omega arith)),
-      last-false (eqb letter letterP) (ne-eqb (length v) sourceFields (λ e. omega arith)),
+      last-false (eqb letter letterP) (both-false (ne-eqb (length v) shortSourceFields (λ e. omega arith)) (ne-eqb (length v) sourceFields (λ e. omega arith))),
     )
+  where
+    both-false : {a b : Bool} → a ≡ false → b ≡ false → (a || b) ≡ false
+    both-false p q = rw (p, q)
 
 module _ (first : Bool) (letter : ℕ) (fs : List (List ℕ)) (r : Numbers) (g : Collected fs r) where
   pub fields-taken : r .ok ≡ true → fieldsRow first letter fs ≡ recordOf first letter (take (r .count) (r .values))

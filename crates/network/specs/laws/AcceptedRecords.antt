@@ -247,9 +247,13 @@ module _ {n : Network} (r : Rebuilt n) (j : ℕ) (h : j < length (n .sources)) w
   source-bus = ltb-true _ _ (source-test 11)
 
   -- the fields, by the kind
-  ranges : rangesOk (sourceAt (n .sources) j) ≡ true
+  pub ranges : rangesOk (sourceAt (n .sources) j) ≡ true
   unfolding fieldsOk
   ranges = let p = sourceAt (n .sources) j in both-true (rangesOk p) (isUnit p || noTransformer p) (source-test 12) .0
+
+  pub unused : isUnit (sourceAt (n .sources) j) || noTransformer (sourceAt (n .sources) j) ≡ true
+  unfolding fieldsOk
+  unused = let p = sourceAt (n .sources) j in both-true (rangesOk p) (isUnit p || noTransformer p) (source-test 12) .1
 
   pub feeder-ranges : sourceAt (n .sources) j .kind ≡ 1 → FeederRanges (sourceAt (n .sources) j)
   unfolding rangesOk

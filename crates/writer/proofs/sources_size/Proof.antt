@@ -1,5 +1,5 @@
 -- `sources_size` meets its contract. The invariant: the size so far and what the rows that are left take make the whole. That no row has
--- more than 150 bytes keeps the sum in range. The measure is how many rows are left.
+-- more than 255 bytes keeps the sum in range. The measure is how many rows are left.
 use mathlib.Core.Path.{_≡_, ap}
 use Prim.Native.Nat.{_+_, _-_, _≤_}
 use native.Mathlib.Omega.{arith}
@@ -47,7 +47,7 @@ add-size c =
       arith,
       c .row-size .ensures letterP,
       next-row-length letterP sourceNumbers (a .t1) (a .total) (omega arith) blankSource (l .i) (omega arith) (numbers .result) (numbers .ensures),
-      rows-most letterP sourceNumbers (a .t1) (a .total) (omega arith) 150 (λ x. omega arith),
+      rows-most letterP sourceNumbers (a .t1) (a .total) (omega arith) 255 (λ x. omega arith),
     )
 
 add-i : tie.Need-add-i Inv-loop μ-loop

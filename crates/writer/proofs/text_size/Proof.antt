@@ -84,7 +84,7 @@ add-result-2 c =
       c .before .before .before .before .bus-total .ensures,
       length-take (s .«bus_count») (s .buses),
       c .sources-size .ensures,
-      record-rows-most letterP sourceNumbers 150 (λ x. omega arith) sources,
+      record-rows-most letterP sourceNumbers 255 (λ x. omega arith) sources,
       length-take (c .before .source-total .result) (c .before .before .sources-of .result),
       c .before .source-total .ensures,
       length-take (s .«source_count») (s .sources),
