@@ -112,9 +112,17 @@ pub fn station_unit(
     let ux = reactance(uk, ur);
     let generator = scale(scale(of(rho, 100), xd, 100), transformer_kva, kva);
     let transformer = scale(scale(of(ur, ux), low, rated), low, rated);
-    let z = scale(scale(add(generator, transformer), volts, transformer_kva), volts, 10);
+    let z = scale(
+        scale(add(generator, transformer), volts, transformer_kva),
+        volts,
+        10,
+    );
     let c = voltage_factor(tolerance, volts);
-    scale(z, c, 1_000_000_000 + difference(xd, ux) * sine(power_factor))
+    scale(
+        z,
+        c,
+        1_000_000_000 + difference(xd, ux) * sine(power_factor),
+    )
 }
 
 // A converter's current in amperes, on the real axis.

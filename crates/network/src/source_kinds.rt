@@ -183,11 +183,7 @@ pub(crate) fn converter_current(p: Source) -> Complex
 fn at_most_a_million(x: u32) -> u64
     ensures { λ r. ⌜ (r ≡ min x 1000000) × (r ≤ 1000000) ⌝ }
 {
-    if x < 1_000_000 {
-        x as u64
-    } else {
-        1_000_000
-    }
+    if x < 1_000_000 { x as u64 } else { 1_000_000 }
 }
 
 // The rated volts of a generator as the bus of its source sees them; those of a unit are multiplied by its high volts.

@@ -74,8 +74,24 @@ returns-3 : tie.Need-returns-3
 unfolding stationUnitBy
 returns-3 c =
     let s = c .before .before .before .before .before .before .before .before .before .before .before .before .before .before .before .before in
-    rw (c .scale7 .ensures, c .before .sine .ensures, c .before .before .difference .ensures, c .before .before .before .voltage-factor .ensures, c .before .before .before .before .scale6 .ensures, c .before .before .before .before .before .scale5 .ensures, c .before .before .before .before .before .before .add .ensures, c .before .before .before .before .before .before .before .scale4 .ensures, c .before .before .before .before .before .before .before .before .scale3 .ensures, c .before .before .before .before .before .before .before .before .before .of2 .ensures, c .before .before .before .before .before .before .before .before .before .before .scale2 .ensures, c .before .before .before .before .before .before .before .before .before .before .before .scale .ensures, c .before .before .before .before .before .before .before .before .before .before .before .before .of .ensures, c .before .before .before .before .before .before .before .before .before .before .before .before .before .reactance .ensures,
-    le-leb (s .args .xd) 100000 (c .before .before .before .before .before .before .before .before .before .before .before .before .before .before .before .if1 .left), le-leb (s .args .uk) 30000 (c .before .before .before .before .before .before .before .before .before .before .before .before .before .before .if2 .left))
+    rw (
+      c .scale7 .ensures,
+      c .before .sine .ensures,
+      c .before .before .difference .ensures,
+      c .before .before .before .voltage-factor .ensures,
+      c .before .before .before .before .scale6 .ensures,
+      c .before .before .before .before .before .scale5 .ensures,
+      c .before .before .before .before .before .before .add .ensures,
+      c .before .before .before .before .before .before .before .scale4 .ensures,
+      c .before .before .before .before .before .before .before .before .scale3 .ensures,
+      c .before .before .before .before .before .before .before .before .before .of2 .ensures,
+      c .before .before .before .before .before .before .before .before .before .before .scale2 .ensures,
+      c .before .before .before .before .before .before .before .before .before .before .before .scale .ensures,
+      c .before .before .before .before .before .before .before .before .before .before .before .before .of .ensures,
+      c .before .before .before .before .before .before .before .before .before .before .before .before .before .reactance .ensures,
+      le-leb (s .args .xd) 100000 (c .before .before .before .before .before .before .before .before .before .before .before .before .before .before .before .if1 .left),
+      le-leb (s .args .uk) 30000 (c .before .before .before .before .before .before .before .before .before .before .before .before .before .before .if2 .left),
+    )
 
 pub station-unit-spec : {M : Type 1} → statement M
 station-unit-spec =
