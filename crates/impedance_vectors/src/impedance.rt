@@ -1,4 +1,4 @@
-// The element impedances at the ends of document 01's ranges.
+// The element impedances at the ends of the documents' ranges.
 use crate::words::end;
 use crate::words::field;
 use crate::words::point;
@@ -63,6 +63,43 @@ fn converter(tenths: u32, k: u32) {
     field(tenths);
     field(k);
     result(impedances::converter(tenths, k));
+}
+
+// A power station unit: its bus, its generator, then the transformer's low volts, kVA, uk and uR.
+fn unit(
+    tolerance: u32,
+    volts: u32,
+    rated: u32,
+    kva: u32,
+    xd: u32,
+    rho: u32,
+    power_factor: u32,
+    low: u32,
+    transformer_kva: u32,
+    uk: u32,
+    ur: u32,
+) {
+    begin(b"unit", tolerance, volts, rated, kva);
+    field(xd);
+    field(rho);
+    field(power_factor);
+    field(low);
+    field(transformer_kva);
+    field(uk);
+    field(ur);
+    result(impedances::station_unit(
+        tolerance,
+        volts,
+        rated,
+        kva,
+        xd,
+        rho,
+        power_factor,
+        low,
+        transformer_kva,
+        uk,
+        ur,
+    ));
 }
 
 // Lengths and circuits; 7 circuits divide nothing evenly.
@@ -166,6 +203,38 @@ fn voltages() {
     at(420_000, 462_000);
 }
 
+// xd above, below and equal to ux, with the least and the greatest of the rest.
+fn unit_reactances(tolerance: u32, volts: u32, rated: u32, kva: u32, low: u32, other: u32) {
+    unit(tolerance, volts, rated, kva, 1_000, 200, 70, low, other, 100, 0);
+    unit(tolerance, volts, rated, kva, 1_000, 0, 100, low, other, 100, 99);
+    unit(tolerance, volts, rated, kva, 1_000, 0, 70, low, other, 30_000, 0);
+    unit(tolerance, volts, rated, kva, 30_000, 200, 70, low, other, 30_000, 0);
+    unit(tolerance, volts, rated, kva, 100_000, 200, 100, low, other, 30_000, 29_999);
+    unit(tolerance, volts, rated, kva, 100_000, 0, 70, low, other, 30_000, 0);
+}
+
+fn unit_powers(tolerance: u32, volts: u32, rated: u32, low: u32) {
+    unit_reactances(tolerance, volts, rated, 10, low, 10);
+    unit_reactances(tolerance, volts, rated, 10, low, 1_000_000);
+    unit_reactances(tolerance, volts, rated, 1_000_000, low, 10);
+    unit_reactances(tolerance, volts, rated, 1_000_000, low, 1_000_000);
+}
+
+// The least and the greatest low volts, with the least and the greatest rated volts of the generator.
+fn units(tolerance: u32, volts: u32) {
+    unit_powers(tolerance, volts, 81, 90);
+    unit_powers(tolerance, volts, 99, 90);
+    unit_powers(tolerance, volts, 415_800, 462_000);
+    unit_powers(tolerance, volts, 508_200, 462_000);
+}
+
+fn all_units() {
+    units(6, 100);
+    units(10, 1_000);
+    units(6, 1_001);
+    units(10, 420_000);
+}
+
 // Transformers whose own side is the higher one.
 fn step_down() {
     transformers(100, 462_000);
@@ -180,7 +249,8 @@ fn converters() {
     converter(100_000, 300);
 }
 
-// Document 01's worked points: a feeder alone, the network of two buses, document 000's generator unit.
+// Document 01's worked points: a feeder alone, the network of two buses, document 000's generator unit; the last also as a unit of
+// document 02, and one past each range that the calculation asks for.
 fn worked() {
     feeder(6, 20_000, 500_000, 10);
     feeder(6, 10_000, 100_000, 0);
@@ -190,11 +260,15 @@ fn worked() {
     generator(10, 690, 690, 950, 18_000, 15, 90);
     transformer(10, 690, 690, 1_000, 6_000, 1_000);
     transformer(10, 690, 20_000, 1_000, 6_000, 1_000);
+    unit(10, 20_000, 690, 950, 18_000, 15, 90, 690, 1_000, 6_000, 1_000);
+    unit(10, 20_000, 690, 950, 100_001, 15, 90, 690, 1_000, 6_000, 1_000);
+    unit(10, 20_000, 690, 950, 18_000, 15, 90, 690, 1_000, 30_001, 1_000);
 }
 
 pub(crate) fn all() {
     lines();
     voltages();
+    all_units();
     step_down();
     converters();
     worked();
