@@ -174,6 +174,18 @@ def unit_up_to_two():
     return found
 
 
+def unit_volts_and_sizes():
+    """q of units well above 2, the volts of all four kinds and the kVA of both parts apart either
+    way: one taken for another makes q another."""
+    found = []
+    for rated, kva, transformer_kva in ((5400, 10**6, 500000), (6600, 500000, 10**6)):
+        plan = made(f"q of a unit of {rated} V and {kva} kVA", 20000)
+        plan.draft.feeder(1000, 10)
+        plan.draft.unit(0, (rated, kva, 16000, 5, 80), (6000, 22000, transformer_kva, 6000, 500))
+        found.append(plan)
+    return found
+
+
 def unit_tenths():
     """Units of q at some tenths and just below, each alone at its bus.  On the high side q would
     be far above or far below, so that the factor taken there is found."""
@@ -299,8 +311,8 @@ def others():
 
 
 def fixed_breakings():
-    found = up_to_two() + unit_up_to_two() + mixed() + small_generators() + stations()
-    found += far_and_weak() + others() + unit_tenths()
+    found = up_to_two() + unit_up_to_two() + unit_volts_and_sizes() + unit_tenths()
+    found += mixed() + small_generators() + stations() + far_and_weak() + others()
     return found + [every_tenth(step) for step in (0, 1)]
 
 

@@ -213,9 +213,9 @@ class InProcess:
 def main():
     from breaking_faults import BREAKING_FAULTS
     from faults import FAULTS
-    from unit_faults import UNIT_FAULTS
+    from unit_faults import UNIT_BREAKING_FAULTS, UNIT_FAULTS
 
-    faults = FAULTS | BREAKING_FAULTS | UNIT_FAULTS
+    faults = FAULTS | BREAKING_FAULTS | UNIT_FAULTS | UNIT_BREAKING_FAULTS
     parser = argparse.ArgumentParser(description=__doc__.splitlines()[0])
     parser.add_argument("role", choices=["program", "console"])
     parser.add_argument("--fault", choices=sorted(faults))

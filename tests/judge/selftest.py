@@ -31,7 +31,7 @@ from refusals import BASE, chain_rows, filled, lone_bus, near_misses
 from run import Commands
 from shares import TABLES, RootSum, Square, compare_roots
 from texts import meant_texts, spoil
-from unit_faults import UNIT_FAULTS
+from unit_faults import UNIT_BREAKING_FAULTS, UNIT_FAULTS
 from unit_networks import UNIT_FAMILIES, fixed_unit_networks, with_units
 from writes import WRITTEN, back_calls, first_calls, fixed_writings, longest_rows
 from writes import study_after, text_of, told_apart
@@ -750,7 +750,7 @@ def planted_faults(tests):
     tests.same("grounds met", refused, set(range(1, 17)) | set(range(21, 26)) | {30, 31, 32})
     breakings = breaking_units()
     tried = [(*fault, units) for fault in (FAULTS | UNIT_FAULTS).items()]
-    tried += [(*fault, breakings) for fault in BREAKING_FAULTS.items()]
+    tried += [(*fault, breakings) for fault in (BREAKING_FAULTS | UNIT_BREAKING_FAULTS).items()]
     for name, stand_in, among in tried:
         found = None
         for unit in among:

@@ -1,4 +1,5 @@
-"""Faults of order 5 planted in the stand-in, each of which the fixed set has to find."""
+"""Faults of order 5 planted in the stand-in, each of which the fixed set has to find; those in the
+breaking current the fixed breakings."""
 
 from accept import Study, near_nominal, within
 from exact import CONVERTER, FEEDER, GENERATOR, MOTOR, UNIT, Network, SourceRecord, sine
@@ -6,8 +7,8 @@ from faults import planted_in
 from reference import COUNTS, StandIn
 from shares import Shares
 
-UNIT_FAULTS = {}
-planted = planted_in(UNIT_FAULTS)
+UNIT_FAULTS, UNIT_BREAKING_FAULTS = {}, {}
+planted, broken = planted_in(UNIT_FAULTS), planted_in(UNIT_BREAKING_FAULTS)
 
 
 # K_S
@@ -242,18 +243,10 @@ class UnitAsConverter(Network):
         return Network(self.tolerance, self.buses, turned).converters_everywhere()
 
 
-@planted
-class ConverterChangesUnits(StandIn):
-    """Units left out of what networks alike in all but converters have alike: with units and
-    converters both, other bounds that are right in themselves."""
-
-    def amperes(self, study, bus):
-        given = super().amperes(study, bus)
-        some = {UNIT, CONVERTER} <= {source.kind for source in study.sources}
-        return given._replace(machines_upper=given.machines_upper + some)
+# Breaking
 
 
-@planted
+@broken
 class UnitInBreakingNoGenerator(Network):
     """Neither in the table nor with μ."""
 
@@ -261,13 +254,13 @@ class UnitInBreakingNoGenerator(Network):
         return source.kind == GENERATOR
 
 
-@planted
+@broken
 class UnitWithoutFactor(StandIn):
     def thousandths(self, source, share, delay):
         return 1000 if source.kind == UNIT else super().thousandths(source, share, delay)
 
 
-@planted
+@broken
 class UnitNotInTable(StandIn):
     def breaking(self, bus, delay, table):
         given = super().breaking(bus, delay, table)
@@ -277,19 +270,19 @@ class UnitNotInTable(StandIn):
         return given
 
 
-@planted
+@broken
 class UnitQuotientOnTheHighSide(Shares):
     def to_terminals(self, source):
         return 1, 1
 
 
-@planted
+@broken
 class UnitQuotientCarriedUpsideDown(Shares):
     def to_terminals(self, source):
         return super().to_terminals(source)[::-1]
 
 
-@planted
+@broken
 class UnitQuotientByGeneratorVolts(Shares):
     """Carried by high over the generator's volts."""
 
@@ -297,21 +290,21 @@ class UnitQuotientByGeneratorVolts(Shares):
         return (source.high_volts, source.first) if source.kind == UNIT else (1, 1)
 
 
-@planted
+@broken
 class UnitRatedCurrentByLowVolts(Shares):
     def rated_square(self, source):
         top, bottom = super().rated_square(source)
         return (3 * source.low_volts**2 if source.kind == UNIT else top), bottom
 
 
-@planted
+@broken
 class UnitRatedCurrentOfTransformer(Shares):
     def rated_square(self, source):
         top, bottom = super().rated_square(source)
         return top, (1000 * source.transformer_kva) ** 2 if source.kind == UNIT else bottom
 
 
-@planted
+@broken
 class UnitShareOnTheLowSide(Shares):
     """The table's share as it is at the unit's terminals."""
 
