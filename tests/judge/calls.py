@@ -11,7 +11,7 @@ from networks import amount, any_network, random_tree
 from refusals import BASE, CONVERTER_AT_BUS_0, FAULTY_BUS, FAULTY_SOURCE, GREATEST, LINE_FROM_BUS_0
 from refusals import chain_rows, fault_subsets, lone_bus
 from texts import SMALL, TEXT, spoil
-from unit_networks import add_units
+from unit_networks import add_units, some_filled
 
 # The console lends a writing so many bytes at most, each filled so that a changed one shows.
 MOST_ROOM = 70_000
@@ -287,7 +287,7 @@ def drawn_calls(rng):
             draft = random_tree(rng, *(rng.randint(1, count) for count in most))
             add_units(draft, rng.choice([0, 0, 1, 5]))
             found += [("start", draft.tolerance)]
-            for call in as_calls(draft.rows):
+            for call in as_calls(some_filled(rng, draft.rows)):
                 while rng.random() < 0.4:
                     found.append(side_call(rng, draft.rows))
                 found.append(call)

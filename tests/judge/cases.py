@@ -172,7 +172,13 @@ def drawn_unit(kind, seed, places):
     if kind == "units":
         plans = [drawn_unit_plan(name, rng) for name, _, rng in draws]
         return Unit([by_calls(plan) for plan in plans], plans)
-    return text_unit([(name, spoil(rng, any_network(rng)[1].file())) for name, _, rng in draws], 0, 20)
+    return text_unit([(name, spoiled_file(n, rng)) for name, n, rng in draws], 0, 20)
+
+
+def spoiled_file(n, rng):
+    """The file of a network, one in three with power station units, and damaged."""
+    _, draft = (any_network if n % 3 else with_units)(rng)
+    return spoil(rng, draft.file())
 
 
 def text_unit(texts, first, every):

@@ -19,6 +19,7 @@ from breaking_faults import BREAKING_FAULTS
 from breakings import BROKEN, drawn_breakings, every_tenth, fixed_breakings, tuned
 from calls import as_calls, carried_out, drawn_calls, line_of
 from cases import Unit, breaking_case, breaking_units, drawn_unit, fixed_units, run_unit
+from confirm import Printed, confirmed
 from exact import CONVERTER, UNIT
 from exact import f_millionths, peak_thousandths, series, sine, transformer_ux
 from faults import FAULTS
@@ -398,6 +399,29 @@ def refused_calls(tests):
             if number and study is not before:
                 tests.true(f"refused {name} leaves the study", False)
     tests.true("refused calls leave the study", True)
+
+
+def units_confirmed(tests):
+    """What `board --confirm` asks for: six amperes, the figure and two bounds for each generator and
+    unit, and a unit's bound that is one too high told by name."""
+    study = study_of(dict(fixed_unit_networks())["units beside all other kinds"])
+    stand_in = StandIn()
+    stand_in.study = study
+    printed = []
+    for bus, record in enumerate(study.buses):
+        amperes, table = stand_in.amperes(study, bus), [0] * 2 * len(study.sources)
+        figure = stand_in.breaking(bus, 100, table)[1]
+        letter = verdict(amperes, record)[0]
+        head = bus, record.volts, record.rating, record.peak_rating
+        printed.append(Printed(*head, tuple(amperes), letter, figure, tuple(table)))
+    got = confirmed(study.text(), printed, 100)
+    tests.same("units confirmed", got, (3, 3 * (6 + 1 + 2 * 6), 3, []))
+    unit = next(place for place, source in enumerate(study.sources) if source.kind == UNIT)
+    table = list(printed[0].table)
+    table[2 * unit] += 1
+    wrong = [printed[0]._replace(table=tuple(table)), *printed[1:]]
+    words = "; ".join(words for _, words in confirmed(study.text(), wrong, 100).differences)
+    tests.true(f"a unit's share not confirmed: {words}", f"source {unit}: lower" in words)
 
 
 def judge_borders(tests):
@@ -782,6 +806,7 @@ def main():
     written_and_read(tests)
     answers_told_apart(tests)
     refused_calls(tests)
+    units_confirmed(tests)
     judge_borders(tests)
     each_table_entry(tests)
     worked_factors_of_q(tests)

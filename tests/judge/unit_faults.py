@@ -72,6 +72,16 @@ class UnitWithoutSine(apart_by(lambda xd, ux: 0)):
 
 
 @planted
+class UnitSineRoundedDown(Network):
+    def unit_factor(self, source):
+        top, bottom = super().unit_factor(source)
+        apart = abs(source.third - self.ux(source.uk, source.ur))
+        s = sine(source.fifth)
+        lower = s - (s * s != 10**8 - 10**4 * source.fifth**2)
+        return top * (10**9 + apart * s), bottom * (10**9 + apart * lower)
+
+
+@planted
 class UnitFactorByGeneratorVolts(factor_times(lambda n, s: (s.first**2, s.low_volts**2))):
     """Ur for the low volts."""
 

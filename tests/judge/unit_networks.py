@@ -130,7 +130,7 @@ KVA = [(10**6, 10**6), (10**6, 10), (10, 10**6), (40000, 63000)]
 def each_relation():
     """Units alone at their buses: xd and ux, volts, kVA and power factors against each other."""
     found = []
-    for volts, tolerance in ((100, 10), (1000, 6), (20000, 6)):
+    for volts, tolerance in ((100, 10), (1000, 6), (20000, 6), (420000, 10)):
         draft = Draft(Random(volts), volts, tolerance)
         draft.feeder(1000, 0)
         highs = [*rated_ends(volts), volts]
