@@ -22,7 +22,8 @@ from judge import NO_AMPERES, Amperes, Bench, verdict
 from shares import RootSum, Shares
 
 CALL = re.compile(r"(start|bus|source|close|query|breaking|write)((?:,(?:0|[1-9][0-9]{0,9}))*)")
-COUNTS = {"start": [1], "bus": [10], "source": [7, 12], "close": [0], "query": [1], "breaking": [3], "write": [1]}
+COUNTS = {"start": [1], "bus": [10], "source": [7, 12], "close": [0], "query": [1]}
+COUNTS |= {"breaking": [3], "write": [1]}
 READ = re.compile(r"read,((?:[0-9a-fA-F]{2})*)")
 TABLE = [peak_thousandths(i) for i in range(231)]
 

@@ -141,7 +141,8 @@ def unit_field_misses():
     for field, number, volts in ((ONE, 32, (0, 429502730)), (HIGH, 13, (0, 429516730))):
         for value in volts:
             rows = changed(BASE, {(UNIT_ROW, field): value})
-            found.append(miss(f"ground {number}: unit's field {field + 1} is {value}", rows, number, UNIT_ROW))
+            name = f"ground {number}: unit's field {field + 1} is {value}"
+            found.append(miss(name, rows, number, UNIT_ROW))
     for changes in ({UK: 0, UR: 0}, {UK: 0, UR: GREATEST}, {UK: 99, UR: 0}, {LOW: 0, ONE: 0}):
         rows = changed(BASE, {(UNIT_ROW, field): value for field, value in changes.items()})
         found.append(miss(f"ground 12: unit with {changes}", rows, 12, UNIT_ROW))

@@ -20,7 +20,7 @@ from breakings import BROKEN, drawn_breakings, every_tenth, fixed_breakings, tun
 from calls import as_calls, carried_out, drawn_calls, line_of
 from cases import Unit, breaking_case, breaking_units, drawn_unit, fixed_units, run_unit
 from confirm import Printed, confirmed
-from exact import CONVERTER, UNIT
+from exact import CONVERTER, GENERATOR, UNIT
 from exact import f_millionths, peak_thousandths, series, sine, transformer_ux
 from faults import FAULTS
 from fixed import fixed_networks, table_steps
@@ -38,6 +38,7 @@ from writes import WRITTEN, back_calls, first_calls, fixed_writings, longest_row
 from writes import study_after, text_of, told_apart
 
 BENCH = Bench()
+GENERATORS = GENERATOR, UNIT
 
 
 class Tests:
@@ -552,9 +553,6 @@ def shares_against_floats(tests):
                 if near > 1e-9:
                     same = abs(low / 2**128 / near - 1) < 1e-9 and high - low < low >> 64
                     tests.true(f"{family.__name__}: share at {b} in floating point", same)
-
-
-GENERATORS = 2, 5
 
 
 class InFloats(StandIn):

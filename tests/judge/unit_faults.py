@@ -26,8 +26,9 @@ def factor_times(ratio):
     return Changed
 
 
-def volts_of(network, source):
-    return network.buses[source.bus].volts
+def volts_of(holder, source):
+    """Nominal volts of a source's bus in a network or a study."""
+    return holder.buses[source.bus].volts
 
 
 def apart_by(apart):
@@ -83,22 +84,22 @@ class UnitSineRoundedDown(Network):
 
 @planted
 class UnitFactorByGeneratorVolts(factor_times(lambda n, s: (s.first**2, s.low_volts**2))):
-    """Ur for the low volts."""
+    """Ur for the low volts, or these for Ur: neither is left."""
 
 
 @planted
-class UnitFactorByLowVolts(factor_times(lambda n, s: (s.first**2, s.low_volts**2)[::-1])):
-    """The low volts for Ur."""
+class UnitFactorOfTurnedVolts(factor_times(lambda n, s: (s.first**4, s.low_volts**4))):
+    """Ur over the low volts."""
 
 
 @planted
 class UnitFactorByHighVolts(factor_times(lambda n, s: (s.high_volts**2, volts_of(n, s) ** 2))):
-    """The high volts for Un."""
+    """The high volts for Un, or Un for these: neither is left."""
 
 
 @planted
-class UnitFactorByNominalVolts(factor_times(lambda n, s: (s.high_volts**2, volts_of(n, s) ** 2)[::-1])):
-    """Un for the high volts."""
+class UnitFactorOfTurnedSides(factor_times(lambda n, s: (s.high_volts**4, volts_of(n, s) ** 4))):
+    """The high volts over Un."""
 
 
 @planted
@@ -249,7 +250,8 @@ class UnitAsConverter(Network):
     """The first two fields of a unit taken for a converter's."""
 
     def converters_everywhere(self):
-        turned = [source._replace(kind=CONVERTER) if source.kind == UNIT else source for source in self.sources]
+        kinds = [CONVERTER if source.kind == UNIT else source.kind for source in self.sources]
+        turned = [source._replace(kind=kind) for source, kind in zip(self.sources, kinds)]
         return Network(self.tolerance, self.buses, turned).converters_everywhere()
 
 
@@ -344,21 +346,22 @@ def source_grounds_with(change):
 
 def in_order(*numbers):
     """The grounds of a source in another order."""
-    return source_grounds_with(lambda study, source, found: sorted(found, key=lambda g: numbers.index(g[0])))
+
+    def place(ground):
+        return numbers.index(ground[0])
+
+    return source_grounds_with(lambda study, source, found: sorted(found, key=place))
 
 
-def instead(number, stands):
-    """Another test for one ground of a unit."""
+def instead(number, fits):
+    """Another test for one ground of a unit, of the source and the study."""
 
     def change(study, source, found):
-        test = source.kind == UNIT
-        return [(n, stands(study, source)) if test and n == number else (n, old) for n, old in found]
+        if source.kind != UNIT:
+            return found
+        return [(n, not fits(source, study) if n == number else stands) for n, stands in found]
 
     return source_grounds_with(change)
-
-
-def nominal(study, source):
-    return study.buses[source.bus].volts
 
 
 @planted
@@ -372,66 +375,71 @@ class UnitVoltsTriedBeforeBus(in_order(10, 11, 12, 32, 13, 14)):
 
 
 @planted
-class UnitVoltsNotTried(instead(32, lambda study, s: False)):
+class UnitVoltsNotTried(instead(32, lambda s, study: True)):
     pass
 
 
 @planted
-class UnitVoltsFromTheirEnd(instead(32, lambda study, s: not 9 * s.low_volts < 10 * s.first <= 11 * s.low_volts)):
+class UnitVoltsAboveTheirEnd(instead(32, lambda s, study: 9 * s.low_volts < 10 * s.first <= 11 * s.low_volts)):
     """9/10 itself refused."""
 
 
 @planted
-class UnitVoltsBelowTheirEnd(instead(32, lambda study, s: not 9 * s.low_volts <= 10 * s.first < 11 * s.low_volts)):
+class UnitVoltsBelowTheirEnd(instead(32, lambda s, study: 9 * s.low_volts <= 10 * s.first < 11 * s.low_volts)):
     """11/10 itself refused."""
 
 
 @planted
-class UnitVoltsTheOtherWay(instead(32, lambda study, s: not near_nominal(s.low_volts, s.first))):
+class UnitVoltsTheOtherWay(instead(32, lambda s, study: near_nominal(s.low_volts, s.first))):
     """The low volts against 9/10 to 11/10 of the generator's."""
 
 
 @planted
-class UnitVoltsAgainstNominal(instead(32, lambda study, s: not near_nominal(s.first, nominal(study, s)))):
+class UnitVoltsAgainstHighVolts(instead(32, lambda s, study: near_nominal(s.first, s.high_volts))):
+    pass
+
+
+@planted
+class UnitVoltsAgainstNominal(instead(32, lambda s, study: near_nominal(s.first, volts_of(study, s)))):
     pass
 
 
 @planted
 class UnitVoltsOfThirtyTwoBits(
-    instead(32, lambda study, s: not 9 * s.low_volts <= 10 * s.first % 2**32 <= 11 * s.low_volts)
+    instead(32, lambda s, study: 9 * s.low_volts <= 10 * s.first % 2**32 <= 11 * s.low_volts)
 ):
+    """Ten times the generator volts in 32 bits."""
+
+
+@planted
+class UnitLowVoltsAgainstNominal(instead(13, lambda s, study: near_nominal(s.low_volts, volts_of(study, s)))):
     pass
 
 
 @planted
-class UnitLowVoltsAgainstNominal(instead(13, lambda study, s: not near_nominal(s.low_volts, nominal(study, s)))):
+class UnitGeneratorVoltsAgainstNominal(instead(13, lambda s, study: near_nominal(s.first, volts_of(study, s)))):
     pass
 
 
 @planted
-class UnitGeneratorVoltsAgainstNominal(instead(13, lambda study, s: not near_nominal(s.first, nominal(study, s)))):
-    pass
-
-
-@planted
-class UnitHighVoltsNotTried(instead(13, lambda study, s: False)):
+class UnitHighVoltsNotTried(instead(13, lambda s, study: True)):
     pass
 
 
 @planted
 class UnitHighVoltsWithoutEnds(
-    instead(13, lambda study, s: not 9 * nominal(study, s) < 10 * s.high_volts < 11 * nominal(study, s))
+    instead(13, lambda s, study: 9 * volts_of(study, s) < 10 * s.high_volts < 11 * volts_of(study, s))
 ):
     pass
 
 
 @planted
-class UnitMayBeFirst(instead(14, lambda study, s: False)):
+class UnitMayBeFirst(instead(14, lambda s, study: True)):
     pass
 
 
 @planted
-class UnitIsNoKind(instead(10, lambda study, s: True)):
+class UnitIsNoKind(instead(10, lambda s, study: False)):
     pass
 
 
