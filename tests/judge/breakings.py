@@ -149,8 +149,8 @@ def up_to_two():
 
 def unit_up_to_two():
     """The same of a unit, whose q is 2 on the low side: at the bus with volts as the nominal ones,
-    with all four apart, with resistances of one angle, from a high side below the low one, and
-    behind a line."""
+    with all four apart, with resistances of one angle, from a high side below the low one, behind
+    a line, and behind a line and a transformer."""
     found = []
     for name, xd, machine, transformer in (
         ("at its bus", 40000, (10000, 10**6, 0), (10000, 20000, 10**6, 10000, 0)),
@@ -170,6 +170,13 @@ def unit_up_to_two():
         plan.draft.line(0, 0, 1000, metres, 1)
         plan.draft.unit(1, (690, 10000, 20000, 0, 100), (690, 10000, 10000, 10000, 0))
         plan.draft.motor(0, 10000, 100, 50, 0)
+        found.append(plan)
+    for x in (87779, 87780, 87781):
+        plan = made(f"q of 2, unit behind a transformer and a line of x {x}", 10000, 10)
+        plan.draft.feeder(1000, 0)
+        plan.draft.line(0, 0, x, 4, 8)
+        plan.draft.transformer(1, 400, (9600, 400), 10**6, 4000, 0)
+        plan.draft.unit(2, (6300, 800000, 10000, 0, 100), (6300, 380, 800000, 1875, 0))
         found.append(plan)
     return found
 
@@ -297,9 +304,9 @@ def mixed():
     return found + [Breaking(name, draft) for name, draft in worked_points()]
 
 
-def some_buses(buses):
+def some_buses(draft):
     """Every bus of a small network, and of a large one both ends and some between."""
-    count = len(buses)
+    count = len(draft.buses)
     return tuple(range(count)) if count <= 6 else (0, 1, count // 2, count - 2, count - 1)
 
 
@@ -307,7 +314,7 @@ def others():
     """Two networks of each family, the longest way and the greatest currents of the fixed set, and
     its small networks with units."""
     drafts = drawn_once() + far_ends() + greatest_currents() + units_together() + units_drawn_once()
-    return [Breaking(name, draft, some_buses(draft.buses)) for name, draft in drafts]
+    return [Breaking(name, draft, some_buses(draft)) for name, draft in drafts]
 
 
 def fixed_breakings():

@@ -9,7 +9,6 @@ from typing import NamedTuple, Optional
 
 from accept import Study
 from breakings import BROKEN, breaking_calls, breakings, drawn_breakings, fixed_breakings
-from breakings import some_buses
 from calls import FIXED, as_calls, at_once, drawn_calls, line_of, queries, states
 from check import Checker
 from fixed import fixed_networks
@@ -200,14 +199,14 @@ def drawn_unit_plan(name, rng):
 
 
 def by_calls(plan):
-    """The same network added call by call, queried, written and asked for breaking currents."""
+    """The same network added call by call, queried, written and asked for breaking currents at
+    its first bus and its last."""
     calls = [("start", plan.tolerance), *as_calls(plan.rows), ("close",)]
-    buses = [numbers for letter, numbers in plan.rows if letter == "B"]
-    sources = len(plan.rows) - len(buses)
-    length = len(study_after(calls).text())
-    calls += [*queries(len(buses)), ("write", length - 1), ("write", length)]
-    asked = [some_buses(buses)[plan.seed % 2 - 1]]
-    return Case(f"{plan.name}, by calls", calls + breakings(asked, [2 * sources]))
+    study = study_after(calls)
+    length, last = len(study.text()), len(study.buses) - 1
+    calls += [*queries(last + 1), ("write", length - 1), ("write", length)]
+    calls += breakings(sorted({0, last}), [2 * len(study.sources)])
+    return Case(f"{plan.name}, by calls", calls)
 
 
 # Running a unit

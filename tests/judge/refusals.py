@@ -389,8 +389,10 @@ def source_subsets():
         rated = 17999 if 13 in grounds else 18000
         generator = (6 if 10 in grounds else 2, bus, rated, 9 if wrong else 10, 1000, 0, 70)
         motor = (0 if 10 in grounds else 3, bus, rated, 1, 101 if wrong else 100, 0, 0)
+        filled_generator = (*generator[:3], 10, *generator[4:], 0, 0, 0, 0, int(wrong))
         head = buses if 14 in grounds else buses + [BASE[1]]
-        for name, record in (("generator", generator), ("motor", motor)):
+        machines = ("generator", generator), ("filled generator", filled_generator), ("motor", motor)
+        for name, record in machines:
             found.append((f"{name} with grounds {grounds}", head, ("P", record), grounds[0]))
         if 13 in grounds or 10 in grounds:
             continue

@@ -612,7 +612,7 @@ def two_reached(tests):
         study = study_of(plan.draft)
         place = next(i for i, source in enumerate(study.sources) if source.kind in GENERATORS)
         signs.append(breaking_judge(study, 0).shares[place].q_square.compare(4))
-    tests.same("q about 2", signs, [-1, 0, 1] * 9)
+    tests.same("q about 2", signs, [-1, 0, 1] * 10)
 
 
 def sums_of_roots(tests):
