@@ -1,9 +1,9 @@
 """Which calls and which files are accepted, with number and row; a study as text.
 
 Written from document 01 alone ("The study", "The file" and the two lists of
-grounds) and from orders 1 to 3 of document 02.  A Study is never changed: each
-call gives its number and the study after it, so that a refused call gives back
-the study it was made on.
+grounds) and from orders 1 to 3 and 5 of document 02.  A Study is never changed:
+each call gives its number and the study after it, so that a refused call gives
+back the study it was made on.
 """
 
 from exact import (
@@ -13,6 +13,7 @@ from exact import (
     LINE,
     MOTOR,
     TRANSFORMER,
+    UNIT,
     BusRecord,
     Network,
     SourceRecord,
@@ -23,6 +24,8 @@ BUSES, SOURCES = 128, 512
 BUSES_BEFORE, SOURCES_BEFORE = 64, 256
 BRANCHES, TRANSFORMERS = 18, 4
 TEXT_BYTES = 65536
+# How many numbers a row may have; a source's seven stand for twelve
+COUNTS = {b"S": (1,), b"B": (10,), b"P": (7, 12)}
 FORM = 16
 NOT_CLOSED, TOO_SHORT, NO_DELAY = 22, 30, 31
 DELAYS = 20, 50, 100, 250
@@ -162,24 +165,42 @@ class Study:
         return branches, transformers
 
     def source_grounds(self, source):
-        yield 10, source.kind not in (FEEDER, GENERATOR, MOTOR, CONVERTER)
+        yield 10, source.kind not in (FEEDER, GENERATOR, MOTOR, CONVERTER, UNIT)
         yield 11, source.bus >= len(self.buses)
         yield 12, not self.source_fields_fit(source)
         if source.kind in (GENERATOR, MOTOR):
             yield 13, not near_nominal(source.first, self.buses[source.bus].volts)
+        if source.kind == UNIT:
+            yield 13, not near_nominal(source.high_volts, self.buses[source.bus].volts)
+            yield 32, not near_nominal(source.first, source.low_volts)
         if self.sources:
             yield 14, source.kind == FEEDER
         else:
             yield 14, source.kind != FEEDER or source.bus != 0
 
     def source_fields_fit(self, source):
+        if source.kind == UNIT:
+            return self.generator_fields_fit(source) and self.unit_fields_fit(source)
+        return not any(source.transformer) and self.first_fields_fit(source)
+
+    def generator_fields_fit(self, source):
+        _, kva, xd, rho, power_factor = source.fields
+        fits = within(kva, 10, 10**6) and within(xd, 1000, 100000)
+        return fits and within(rho, 0, 200) and within(power_factor, 70, 100)
+
+    def unit_fields_fit(self, source):
+        low, _, kva, uk, ur = source.transformer
+        fits = within(low, 90, 462000) and within(kva, 10, 10**6)
+        return fits and within(uk, 100, 30000) and within(ur, 0, uk - 1)
+
+    def first_fields_fit(self, source):
+        """The five fields of kinds 1 to 4."""
         one, two, three, four, five = source.fields
         if source.kind == FEEDER:
             fits = within(one, 1000, 10**8) and within(two, 0, 200)
             return fits and not (three or four or five)
         if source.kind == GENERATOR:
-            fits = within(two, 10, 10**6) and within(three, 1000, 100000)
-            return fits and within(four, 0, 200) and within(five, 70, 100)
+            return self.generator_fields_fit(source)
         if source.kind == MOTOR:
             fits = within(two, 1, 100000) and within(three, 10, 100)
             return fits and within(four, 0, 200) and five == 0
@@ -217,7 +238,7 @@ class Study:
         """Letter and numbers of a row, or None twice when its form is broken."""
         letter, *fields = row.split(b",")
         numbers = [self.number(field) for field in fields]
-        if None in numbers or {b"S": 1, b"B": 10, b"P": 7}.get(letter) != len(numbers):
+        if None in numbers or len(numbers) not in COUNTS.get(letter, ()):
             return None, None
         return letter, numbers
 

@@ -2,7 +2,6 @@
 
 from fractions import Fraction
 
-from exact import GENERATOR
 from judge import LIMIT
 from shares import RootSum
 
@@ -15,6 +14,7 @@ class BreakingJudge:
     """The exact shares of a closed study's sources for a fault at one bus, by a Bench."""
 
     def __init__(self, bench, network, bus):
+        self.network = network
         self.sources = network.sources
         found = iter(bench.shares(network).at(bus))
         self.shares = [next(found) if network.is_machine(s) else None for s in self.sources]
@@ -22,9 +22,9 @@ class BreakingJudge:
         self.sums = {}
 
     def generators(self):
-        """Place and share of each generator."""
-        pairs = enumerate(zip(self.sources, self.shares))
-        return [(place, share) for place, (source, share) in pairs if source.kind == GENERATOR]
+        """Place and share of each generator, units among them."""
+        pairs, counts = enumerate(zip(self.sources, self.shares)), self.network.is_generator
+        return [(place, share) for place, (source, share) in pairs if counts(source)]
 
     def sum(self, delay):
         if delay not in self.sums:

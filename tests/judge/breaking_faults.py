@@ -3,7 +3,7 @@
 from fractions import Fraction
 
 from accept import DELAYS, Study
-from exact import CONVERTER, FEEDER, GENERATOR, MOTOR
+from exact import CONVERTER, FEEDER, GENERATOR, MOTOR, UNIT
 from faults import planted_in
 from reference import StandIn
 from shares import FORMULAS, TABLES, WHOLE, Share, Shares, Square, series, size_square
@@ -45,7 +45,7 @@ class TwoTestedAfterRounding(StandIn):
     """q by the share's upper bound, so that 2 itself is above 2."""
 
     def thousandths(self, source, share, delay):
-        if source.kind != GENERATOR:
+        if share.q_square is None:
             return WHOLE
         rated = Fraction(share.q_square.top, share.q_square.bottom)
         if share.square.root_ceiling() ** 2 * rated <= 4:
@@ -344,7 +344,7 @@ class OtherKindsKept(StandIn):
         if given[0] == 0:
             kinds = [source.kind for source in self.study.sources for _ in range(2)]
             for at, kind in enumerate(kinds):
-                table[at] = table[at] if kind == GENERATOR else lent[at]
+                table[at] = table[at] if kind in (GENERATOR, UNIT) else lent[at]
         return given
 
 

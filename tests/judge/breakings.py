@@ -3,7 +3,8 @@ sums lie where a calculation goes wrong.
 
 q of a generator at the queried bus itself is c·Un/(√3·X) over its rated
 current, which is 1/xd at ρ 0 and power factor 1, whatever else is there; so xd
-50 % makes it 2 to the last digit.
+50 % makes it 2 to the last digit.  Of a unit it is, on the low side and with xT
+beside xd, high/Un·Ur/low over xd + xT·(low/Ur)²·kVA/kVA of the transformer.
 """
 
 from random import Random
@@ -11,12 +12,13 @@ from typing import NamedTuple
 
 from accept import BUSES, DELAYS, SOURCES
 from calls import LOW_VOLTAGE, MOST_TABLE, as_calls, queries, wrong_record
-from exact import CONVERTER, GENERATOR, MOTOR, Network
+from exact import CONVERTER, GENERATOR, MOTOR, UNIT, Network, SourceRecord
 from fixed import drawn_once, far_ends, greatest_currents, worked_points
 from networks import Draft, amount, any_network, arm, random_tree
 from refusals import BASE, GREATEST
 from shares import LAST_TENTH, Shares
 from texts import SMALL, TEXT
+from unit_networks import FAR, add_units, units_drawn_once, units_together, with_units
 
 NO_DELAYS = [0, 1, 2, 5, 19, 21, 25, 49, 51, 99, 101, 200, 249, 251, 500, 20000, GREATEST]
 
@@ -61,7 +63,7 @@ def broken_delays():
     """Numbers beside the four delays, with room and without, at a bus and at none."""
     found = [("start", 10), *as_calls(BASE), ("close",)]
     for delay in [*DELAYS, *NO_DELAYS]:
-        found += [("breaking", bus, delay, room) for bus in (2, 3) for room in (7, 8, 11)]
+        found += [("breaking", bus, delay, room) for bus in (2, 3) for room in (9, 10, 13)]
     return found
 
 
@@ -88,8 +90,13 @@ def broken_sources():
     for count in (1, 2, 3, 10, 63, 64, 65, 256, 257, SOURCES - 1, SOURCES):
         found += [("start", 6), *as_calls(BASE[:2])]
         for n in range(1, count):
-            generator = (GENERATOR, 0, 20000, 10 + n, 20000, n % 200, 70 + n % 31)
-            found.append(("source", generator if n % 3 else (CONVERTER, 0, n, 150, 0, 0, 0)))
+            generator = (20000, 10 + n, 20000, n % 200, 70 + n % 31)
+            records = (
+                (CONVERTER, 0, n, 150, 0, 0, 0),
+                (GENERATOR, 0, *generator),
+                (UNIT, 0, *generator, 20000, 20000, 10 + n, 6000, n),
+            )
+            found.append(("source", records[n % 3]))
         rooms = [2 * count - 1, 2 * count, 2 * count + 1, MOST_TABLE]
         found += [("close",), *breakings([0], rooms)]
     return found
@@ -140,6 +147,68 @@ def up_to_two():
     return found
 
 
+def unit_up_to_two():
+    """The same of a unit, whose q is 2 on the low side: at the bus with volts as the nominal ones,
+    with all four apart, with resistances of one angle, from a high side below the low one, behind
+    a line, and behind a line and a transformer."""
+    found = []
+    for name, xd, machine, transformer in (
+        ("at its bus", 40000, (10000, 10**6, 0), (10000, 20000, 10**6, 10000, 0)),
+        ("of four volts", 50500, (6600, 10**6, 0), (6000, 22000, 10**6, 12100, 0)),
+        ("at rho 75", 32000, (690, 10**6, 75), (690, 20000, 10**6, 10000, 6000)),
+        ("of high below low", 40000, (400000, 10**6, 0), (400000, 20000, 10**6, 10000, 0)),
+    ):
+        rated, kva, rho = machine
+        for beside in (-1, 0, 1):
+            plan = made(f"q of 2, unit {name}, xd {xd + beside}", 20000)
+            plan.draft.feeder(1000, 10)
+            plan.draft.unit(0, (rated, kva, xd + beside, rho, 100), transformer)
+            found.append(plan)
+    for metres in (2199, 2200, 2201):
+        plan = made(f"q of 2, unit behind {metres} m", 10000)
+        plan.draft.feeder(1000, 0)
+        plan.draft.line(0, 0, 1000, metres, 1)
+        plan.draft.unit(1, (690, 10000, 20000, 0, 100), (690, 10000, 10000, 10000, 0))
+        plan.draft.motor(0, 10000, 100, 50, 0)
+        found.append(plan)
+    for x in (87779, 87780, 87781):
+        plan = made(f"q of 2, unit behind a transformer and a line of x {x}", 10000, 10)
+        plan.draft.feeder(1000, 0)
+        plan.draft.line(0, 0, x, 4, 8)
+        plan.draft.transformer(1, 400, (9600, 400), 10**6, 4000, 0)
+        plan.draft.unit(2, (6300, 800000, 10000, 0, 100), (6300, 380, 800000, 1875, 0))
+        found.append(plan)
+    return found
+
+
+def unit_volts_and_sizes():
+    """q of units well above 2, the volts of all four kinds and the kVA of both parts apart either
+    way: one taken for another makes q another."""
+    found = []
+    for rated, kva, transformer_kva in ((5400, 10**6, 500000), (6600, 500000, 10**6)):
+        plan = made(f"q of a unit of {rated} V and {kva} kVA", 20000)
+        plan.draft.feeder(1000, 10)
+        plan.draft.unit(0, (rated, kva, 16000, 5, 80), (6000, 22000, transformer_kva, 6000, 500))
+        found.append(plan)
+    return found
+
+
+def unit_tenths():
+    """Units of q at some tenths and just below, each alone at its bus.  On the high side q would
+    be far above or far below, so that the factor taken there is found."""
+    found = []
+    for low in (100, 100000):
+        plan = made(f"q of units by tenths, low side of {low} V", 1000)
+        plan.draft.feeder(1000, 10)
+        for tenths in range(20, LAST_TENTH + 1, 5):
+            for step in (0, 1):
+                machine = low, 10**6, 10**6 // tenths - 100 + step, 0, 100
+                bus = plan.draft.line(0, *FAR)
+                plan.draft.unit(bus, machine, (low, 1000, 10**6, 100, 0))
+        found.append(plan)
+    return found
+
+
 def every_tenth(step):
     """Generators of q at each tenth from 2 on, `step` on xd beside it, each alone at a bus
     from which the others cannot be felt."""
@@ -147,7 +216,7 @@ def every_tenth(step):
     plan.draft.feeder(1000, 10)
     steep = [1000, 1001, 2000, 5000, 8000, 9999]
     for xd in [10**6 // tenths + step for tenths in range(20, LAST_TENTH + 1)] + steep:
-        bus = plan.draft.line(0, 100000, 100000, 200000, 1)
+        bus = plan.draft.line(0, *FAR)
         plan.draft.generator(bus, 1000, 10**6, max(xd, 1000), 0, 100)
     return plan
 
@@ -228,6 +297,7 @@ def mixed():
         volts = base.buses[bus][1]
         for kva, xd in ((500, 15000), (500, 15000), (20000, 9000), (90, 70000)):
             base.generator(bus, volts, kva, xd, 10, 80)
+            base.unit(bus, (6300, kva, xd, 10, 80), (6000, volts, kva, 9000, 400))
             base.motor(bus, volts, kva // 3, 55, 30)
             base.converter(bus, 3 * kva, 130)
     found = [Breaking("machines of all kinds", base)]
@@ -241,13 +311,15 @@ def some_buses(draft):
 
 
 def others():
-    """Two networks of each family, the longest way and the greatest currents of the fixed set."""
-    drafts = drawn_once() + far_ends() + greatest_currents()
+    """Two networks of each family, the longest way and the greatest currents of the fixed set, and
+    its small networks with units."""
+    drafts = drawn_once() + far_ends() + greatest_currents() + units_together() + units_drawn_once()
     return [Breaking(name, draft, some_buses(draft)) for name, draft in drafts]
 
 
 def fixed_breakings():
-    found = up_to_two() + mixed() + small_generators() + stations() + far_and_weak() + others()
+    found = up_to_two() + unit_up_to_two() + unit_volts_and_sizes() + unit_tenths()
+    found += mixed() + small_generators() + stations() + far_and_weak() + others()
     return found + [every_tenth(step) for step in (0, 1)]
 
 
@@ -265,7 +337,7 @@ def q_sign(tolerance, rows, place, bus, tenths):
     """Sign of the generator's q minus so many tenths, for a fault at the bus."""
     records = {letter: [numbers for kind, numbers in rows if kind == letter] for letter in "BP"}
     shares = Shares(Network(tolerance, records["B"], records["P"]))
-    source = shares.network.sources.index(rows[place][1])
+    source = shares.network.sources.index(SourceRecord(*rows[place][1]))
     machine = sum(shares.network.is_machine(s) for s in shares.network.sources[:source])
     return -shares.at(bus)[machine].q_square.times(100, 1).compare(tenths**2)
 
@@ -278,10 +350,13 @@ def with_reactance(rows, place, xd):
 
 
 def tuned(rng):
-    """A small network, one generator's xd set so that its q lies next to 2 or to another
-    tenth: the tolerance, and the rows on either side of that border where it has one."""
+    """A small network, the xd of one generator or unit set so that its q lies next to 2 or to
+    another tenth: the tolerance, and the rows on either side of that border where it has one."""
     draft = random_tree(rng, rng.randint(1, 6), rng.randint(1, 7))
-    draft.generator(draft.any_bus(), None, amount(rng, 1000, 10**6))
+    if rng.random() < 0.5:
+        draft.generator(draft.any_bus(), None, amount(rng, 1000, 10**6))
+    else:
+        add_units(draft, rng.randint(1, 3))
     place, bus = len(draft.rows) - 1, draft.any_bus()
     tenths = rng.choice([20, 20, rng.randint(21, LAST_TENTH)])
 
@@ -305,6 +380,7 @@ def weak_or_strong(rng):
     for _ in range(2):
         arm(draft, 0, rng.randint(1, 18), 0)
     draft.any_sources(rng.randint(1, 60), (GENERATOR, GENERATOR, GENERATOR, MOTOR))
+    add_units(draft, rng.randrange(20))
     return draft
 
 
@@ -322,10 +398,13 @@ def crowded(rng):
 
 def drawn_rows(rng):
     """Tolerance and the rows of one network or two."""
-    way = rng.randrange(10)
+    way = rng.randrange(12)
     if way < 4:
         return tuned(rng)
-    draft = (weak_or_strong(rng), crowded(rng))[way - 4] if way < 6 else any_network(rng)[1]
+    if way < 6:
+        draft = (weak_or_strong, crowded)[way - 4](rng)
+    else:
+        draft = (any_network if way < 9 else with_units)(rng)[1]
     return draft.tolerance, [draft.rows]
 
 

@@ -1,9 +1,9 @@
 """Lists of single calls, fixed and drawn, with refused ones among them.
 
 A call is a tuple: ("start", tolerance), ("bus", ten numbers), ("source", seven
-numbers), ("close",), ("query", bus), ("breaking", bus, delay, room), ("write",
-room), ("read", bytes), ("read capitals", bytes), the same in capital digits, or
-("other", line) for a line that is no call at all.
+or twelve numbers), ("close",), ("query", bus), ("breaking", bus, delay, room),
+("write", room), ("read", bytes), ("read capitals", bytes), the same in capital
+digits, or ("other", line) for a line that is no call at all.
 """
 
 from accept import BUSES, BUSES_BEFORE, SOURCES, SOURCES_BEFORE
@@ -11,6 +11,7 @@ from networks import amount, any_network, random_tree
 from refusals import BASE, CONVERTER_AT_BUS_0, FAULTY_BUS, FAULTY_SOURCE, GREATEST, LINE_FROM_BUS_0
 from refusals import chain_rows, fault_subsets, lone_bus
 from texts import SMALL, TEXT, spoil
+from unit_networks import add_units, some_filled
 
 # The console lends a writing so many bytes at most, each filled so that a changed one shows.
 MOST_ROOM = 70_000
@@ -30,8 +31,12 @@ NO_CALLS = [
     "bus,0,100,0,0,0,0,0,0,1",
     "bus,0,100,0,0,0,0,0,0,1,1,1",
     "bus,0,100,0,0,0,0,0,0,1,x",
-    "source,1,0,1000,0,0,0",
-    "source,1,0,1000,0,0,0,0,0",
+    *["source,1,0,1000" + ",0" * more for more in (3, 5, 6, 7, 8, 10, 11, 30)],
+    "source,5,0,400,100,20000,10,80,400,400,100,6000,600,0",
+    "source,5,0,400,100,20000,10,80,400,400,100,6000",
+    "source,4,0,1000,150,0,0,0,0,0,0,0,x",
+    "source,4,0,1000,150,0,0,0,0,0,0,0,",
+    "source,4,0,1000,150,0,0,0,",
     "close,1",
     "query",
     "query,",
@@ -151,6 +156,7 @@ def states():
         ("query", GREATEST),
         ("bus", (9, 9, 9, 9, 9, 9, 9, 9, 0, 0)),
         ("source", (9, 9, 9, 9, 9, 9, 9)),
+        ("source", (5, 9, 9, 9, 9, 9, 9, 9, 9, 9, 9, 9)),
     ]
     found = [("start", 6), *tries, ("source", BASE[1][1]), ("close",)]
     for call in base:
@@ -279,8 +285,9 @@ def drawn_calls(rng):
         else:
             most = rng.choice([(30, 40)] * 9 + [(BUSES, SOURCES)])
             draft = random_tree(rng, *(rng.randint(1, count) for count in most))
+            add_units(draft, rng.choice([0, 0, 1, 5]))
             found += [("start", draft.tolerance)]
-            for call in as_calls(draft.rows):
+            for call in as_calls(some_filled(rng, draft.rows)):
                 while rng.random() < 0.4:
                     found.append(side_call(rng, draft.rows))
                 found.append(call)

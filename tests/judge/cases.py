@@ -8,8 +8,8 @@ from random import Random
 from typing import NamedTuple, Optional
 
 from accept import Study
-from breakings import BROKEN, breaking_calls, drawn_breakings, fixed_breakings
-from calls import FIXED, at_once, drawn_calls, line_of, queries, states
+from breakings import BROKEN, breaking_calls, breakings, drawn_breakings, fixed_breakings
+from calls import FIXED, as_calls, at_once, drawn_calls, line_of, queries, states
 from check import Checker
 from fixed import fixed_networks
 from judge import Amperes
@@ -17,8 +17,9 @@ from networks import any_network, border_ratings, with_more_converters, with_rat
 from networks import without_converters, write_file
 from refusals import near_misses
 from texts import greatest_numbers, meant_texts, spoil, truncations
+from unit_networks import with_units
 from writes import WRITTEN, back_calls, drawn_writing, first_calls, fixed_writings
-from writes import text_of, told_apart
+from writes import study_after, text_of, told_apart
 
 # The console takes lines of at most so many bytes; a longer text goes to the program alone.
 LINE_BYTES = 140_000
@@ -144,12 +145,15 @@ def breaking_case(plan):
     return Case(f"breaking: {plan.name}", calls, calls[0][1])
 
 
-def drawn_units(seed, networks, texts, lists, writings, breakings):
-    """Arguments of drawn_unit for so many networks, broken texts, lists of calls, writings and breakings."""
+# How many of a kind are drawn for one unit of work
+DRAWN_TOGETHER = {"networks": 8, "bytes": 100, "calls": 20, "writes": 20, "breakings": 10, "units": 8}
+
+
+def drawn_units(seed, counts):
+    """Arguments of drawn_unit; `counts` says how many there are to be of each kind."""
     found = []
-    kinds = ("networks", networks, 8), ("bytes", texts, 100), ("calls", lists, 20)
-    for kind, count, size in (*kinds, ("writes", writings, 20), ("breakings", breakings, 10)):
-        found += [(kind, seed, part) for part in chunks(range(count), size)]
+    for kind, size in DRAWN_TOGETHER.items():
+        found += [(kind, seed, part) for part in chunks(range(counts[kind]), size)]
     return found
 
 
@@ -164,7 +168,16 @@ def drawn_unit(kind, seed, places):
         return Unit([Case(name, drawn_breakings(rng)) for name, _, rng in draws])
     if kind == "writes":
         return Unit([], writings=[drawn_writing(name, rng) for name, _, rng in draws])
-    return text_unit([(name, spoil(rng, any_network(rng)[1].file())) for name, _, rng in draws], 0, 20)
+    if kind == "units":
+        plans = [drawn_unit_plan(name, rng) for name, _, rng in draws]
+        return Unit([by_calls(plan) for plan in plans], plans)
+    return text_unit([(name, spoiled_file(n, rng)) for name, n, rng in draws], 0, 20)
+
+
+def spoiled_file(n, rng):
+    """The file of a network, one in three with power station units, and damaged."""
+    _, draft = (any_network if n % 3 else with_units)(rng)
+    return spoil(rng, draft.file())
 
 
 def text_unit(texts, first, every):
@@ -177,6 +190,23 @@ def text_unit(texts, first, every):
 def drawn_plan(name, n, rng):
     family, draft = any_network(rng)
     return network_plan(f"{name}, {family}", draft, rng.randrange(1000), 1, n % 10 == 0)
+
+
+def drawn_unit_plan(name, rng):
+    """A network with power station units: its file for both programs."""
+    family, draft = with_units(rng)
+    return network_plan(f"{name}, {family}", draft, rng.randrange(1000), 1, True)
+
+
+def by_calls(plan):
+    """The same network added call by call, queried, written and asked for breaking currents at
+    its first bus and its last."""
+    calls = [("start", plan.tolerance), *as_calls(plan.rows), ("close",)]
+    study = study_after(calls)
+    length, last = len(study.text()), len(study.buses) - 1
+    calls += [*queries(last + 1), ("write", length - 1), ("write", length)]
+    calls += breakings(sorted({0, last}), [2 * len(study.sources)])
+    return Case(f"{plan.name}, by calls", calls)
 
 
 # Running a unit

@@ -8,7 +8,6 @@ from typing import NamedTuple
 
 from accept import Study
 from breaking import BreakingJudge, share_reasons
-from exact import GENERATOR
 from judge import Amperes, Bench, verdict_reasons
 
 FIGURES = len(Amperes._fields)
@@ -51,7 +50,7 @@ def confirmed(text, printed, delay=0):
         if delay:
             found += breaking_reasons(BreakingJudge(bench, network, bus), one, delay)
         differences += [(bus, words) for words in found]
-    each = FIGURES + (1 + 2 * generators(study) if delay else 0)
+    each = FIGURES + (1 + 2 * generators(network) if delay else 0)
     return Confirmed(len(printed), each * len(printed), len(printed), differences)
 
 
@@ -59,8 +58,8 @@ def nothing(words):
     return Confirmed(0, 0, 0, [(None, words)])
 
 
-def generators(study):
-    return sum(source.kind == GENERATOR for source in study.sources)
+def generators(network):
+    return sum(network.is_generator(source) for source in network.sources)
 
 
 def bus_reasons(judge, one, bus, record):

@@ -1,8 +1,8 @@
 """Exact values of a network: factors, impedances, seen impedance, currents.
 
-Written from document 01 alone.  Every value is a whole number or a ratio of
-whole numbers; nothing here is rounded except the enclosure of T(y) in
-`kappa_bounds`, which is rounded outwards.
+Written from document 01 and order 5 of document 02 alone.  Every value is a
+whole number or a ratio of whole numbers; nothing here is rounded except the
+enclosure of T(y) in `kappa_bounds`, which is rounded outwards.
 
 An admittance is kept as a ratio (p + jq)/(r + js) of complex whole numbers.
 Turning it over exchanges the two, and a sum or a branch in series adds the
@@ -16,7 +16,7 @@ from math import factorial, gcd, isqrt
 from typing import NamedTuple
 
 LINE, TRANSFORMER = 1, 2
-FEEDER, GENERATOR, MOTOR, CONVERTER = 1, 2, 3, 4
+FEEDER, GENERATOR, MOTOR, CONVERTER, UNIT = 1, 2, 3, 4, 5
 
 # Numbers above this many bits are not searched for a common divisor: the
 # search would take longer than it saves.
@@ -44,6 +44,8 @@ class BusRecord(NamedTuple):
 
 
 class SourceRecord(NamedTuple):
+    """Seven numbers alone are read as if filled with zeros."""
+
     kind: int
     bus: int
     first: int
@@ -51,10 +53,20 @@ class SourceRecord(NamedTuple):
     third: int
     fourth: int
     fifth: int
+    low_volts: int = 0
+    high_volts: int = 0
+    transformer_kva: int = 0
+    uk: int = 0
+    ur: int = 0
 
     @property
     def fields(self):
         return self[2:7]
+
+    @property
+    def transformer(self):
+        """What a power station unit alone has: low and high volts, kVA, uk, uR."""
+        return self[7:12]
 
 
 # Factors
@@ -239,17 +251,51 @@ class Network:
         rated, kva, ratio, rho, _ = source.fields
         return self.split(10 * rated**2, ratio * 1000 * kva, rho)
 
+    def unit(self, source):
+        """K_S·(t²·Z_G + Z_T), over one denominator."""
+        top, bottom = self.unit_factor(source)
+        r, x, d = self.unit_generator(source)
+        ur, ux, e = self.unit_transformer(source)
+        z = (r * e + ur * d) * top, (x * e + ux * d) * top, d * e * bottom
+        common = gcd(*z)
+        return tuple(part // common for part in z)
+
+    def unit_factor(self, source):
+        """K_S = Un²/Ur²·low²/high²·c/(1 + |xd − xT|·sin), xd and xT in 10⁵ths and sin in 10⁴ths."""
+        rated, _, xd, _, power_factor = source.fields
+        low, high, _, uk, ur = source.transformer
+        volts = self.buses[source.bus].volts
+        apart = abs(xd - self.ux(uk, ur)) * sine(power_factor)
+        top = (volts * low) ** 2 * self.c(volts) * 10**7
+        return top, (rated * high) ** 2 * (10**9 + apart)
+
+    def unit_generator(self, source):
+        """t²·Z_G: the generator without K_G, from the low side to the high one."""
+        rated, kva, xd, rho, _ = source.fields
+        low, high = source.transformer[:2]
+        x = (high * rated) ** 2 * xd
+        return x * rho, x * 100, low**2 * 10**8 * kva * 100
+
+    def unit_transformer(self, source):
+        """Z_T on the high side, without K_T."""
+        _, high, kva, uk, ur = source.transformer
+        return high**2 * ur, high**2 * self.ux(uk, ur), 10**8 * kva
+
     def split(self, top, bottom, rho):
         """Z = top/bottom ohms parted into R and X by f."""
         x = top * f_millionths(rho)
         return x * rho, x * 100, bottom * 10**8
 
     def machine(self, source):
-        rule = {FEEDER: self.feeder, GENERATOR: self.generator, MOTOR: self.motor}
+        rule = {FEEDER: self.feeder, GENERATOR: self.generator, MOTOR: self.motor, UNIT: self.unit}
         return rule[source.kind](source)
 
     def is_machine(self, source):
         return source.kind != CONVERTER
+
+    def is_generator(self, source):
+        """In the breaking current a unit is a generator."""
+        return source.kind in (GENERATOR, UNIT)
 
     # Crossing the branch of a bus
 

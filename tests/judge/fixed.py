@@ -7,6 +7,7 @@ from random import Random
 
 from accept import BUSES, SOURCES
 from networks import FAMILIES, Draft, highest, lowest
+from unit_networks import fixed_unit_networks
 
 
 def worked_points():
@@ -207,4 +208,5 @@ def fixed_networks():
         + ends_together()
         + drawn_once()
         + greatest_currents()
+        + fixed_unit_networks()
     )

@@ -5,7 +5,7 @@ same networks again.
 """
 
 from accept import BUSES, SOURCES
-from exact import CONVERTER, FEEDER, GENERATOR, LINE, MOTOR, TRANSFORMER
+from exact import CONVERTER, FEEDER, GENERATOR, LINE, MOTOR, TRANSFORMER, UNIT
 
 TYPICAL_VOLTS = [100, 400, 690, 999, 1000, 1001, 6000, 10000, 20000, 110000, 419999, 420000]
 TOP_RATING, TOP_PEAK_RATING = 10**6, 3 * 10**6
@@ -132,6 +132,26 @@ class Draft:
     def converter(self, bus, tenths=None, k=None):
         tenths, k = self.one_of(1, 100000, tenths), self.one_of(100, 300, k)
         self.source(CONVERTER, bus, tenths, k, 0, 0, 0)
+
+    def unit(self, bus, machine=(None,) * 5, transformer=(None,) * 5):
+        """`machine` is what a generator has; then low and high volts, kVA, uk and uR."""
+        rated, kva, xd, rho, power_factor = machine
+        low, high, transformer_kva, uk, ur = transformer
+        low, uk = self.one_of(90, 462000, low), self.one_of(100, 30000, uk)
+        self.source(
+            UNIT,
+            bus,
+            self.one_of(*rated_ends(low), rated),
+            self.one_of(10, 10**6, kva),
+            self.one_of(1000, 100000, xd),
+            self.one_of(0, 200, rho),
+            self.one_of(70, 100, power_factor),
+            low,
+            self.one_of(*rated_ends(self.buses[bus][1]), high),
+            self.one_of(10, 10**6, transformer_kva),
+            uk,
+            self.one_of(0, uk - 1, ur),
+        )
 
     def any_sources(self, count, kinds=(GENERATOR, MOTOR, CONVERTER), buses=None):
         make = {GENERATOR: self.generator, MOTOR: self.motor, CONVERTER: self.converter}

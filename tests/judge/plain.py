@@ -1,4 +1,4 @@
-"""Document 01 and order 3 once more, as plainly as they are written: fractions and recursion.
+"""Document 01 and orders 3 and 5 once more, as plainly as they are written: fractions and recursion.
 
 The fractions are far too slow for large networks.  The self-test compares
 them with exact.py on small ones, and the same recursion in floating point on
@@ -9,7 +9,7 @@ formulas shows.
 from fractions import Fraction as F
 from functools import lru_cache
 
-from exact import CONVERTER, FEEDER, GENERATOR, TRANSFORMER
+from exact import CONVERTER, FEEDER, GENERATOR, TRANSFORMER, UNIT
 
 
 def least(holds):
@@ -109,7 +109,21 @@ class PlainNetwork:
         r, x, metres, circuits, _ = bus.branch
         return Complex(r, x).times(F(metres, circuits * 10**6))
 
+    def unit(self, source):
+        """K_S·(t²·Z_G + Z_T), on the high side."""
+        rated, kva, xd, rho, power_factor = source.fields
+        low, high, transformer_kva, uk, ur = source.transformer
+        volts = self.buses[source.bus].volts
+        x = F(xd, 100000) * F(rated**2, 1000 * kva)
+        z_g = Complex(x * F(rho, 100), x)
+        z_t = Complex(ur, ux(uk, ur)).times(F(high**2, 100000 * 1000 * transformer_kva))
+        apart = abs(F(xd, 100000) - F(ux(uk, ur), 100000))
+        k_s = F(volts, rated) ** 2 * F(low, high) ** 2 * self.c(volts) / (1 + apart * sine(power_factor))
+        return (z_g.times(F(high, low) ** 2) + z_t).times(k_s)
+
     def machine(self, source):
+        if source.kind == UNIT:
+            return self.unit(source)
         volts = self.buses[source.bus].volts
         if source.kind == GENERATOR:
             rated, kva, xd, rho, power_factor = source.fields
@@ -216,7 +230,7 @@ class PlainNetwork:
 
     def share_nearly(self, b, source):
         """In floating point and by another way: from the voltage at the fault the voltages
-        along the way, then the current through the machine; carried back, and as it is there."""
+        along the way, then the current through the machine; carried back, and at its terminals."""
         volts = self.buses[b].volts
         voltage, back = float(self.c(volts)) * volts / 3**0.5, 1.0
         way = self.way(b, source.bus)
@@ -227,7 +241,8 @@ class PlainNetwork:
             voltage *= far / (z + far) * float(self.ratio(at, n))
             back *= float(self.ratio(at, n))
         current = abs(voltage / nearly(self.machine(source)))
-        return current * back, current
+        terminals = source.high_volts / source.low_volts if source.kind == UNIT else 1.0
+        return current * back, current * terminals
 
     def q_square(self, b, source):
         """At the generator's terminals; a current falls as the rated volts rise."""
@@ -235,12 +250,14 @@ class PlainNetwork:
         way = self.way(b, source.bus)
         for left, arrived in zip(way, way[1:]):
             square /= self.ratio(left, arrived) ** 2
+        if source.kind == UNIT:
+            square *= F(source.high_volts, source.low_volts) ** 2
         rated, kva = source.fields[:2]
         return square * 3 * F(rated, 1000 * kva) ** 2
 
     def factor(self, b, source, delay):
         """μ in thousandths."""
-        if source.kind != GENERATOR or self.q_square(b, source) <= 4:
+        if source.kind not in (GENERATOR, UNIT) or self.q_square(b, source) <= 4:
             return 1000
         square = self.q_square(b, source)
         tenths = 100 if square >= 100 else greatest(lambda n: F(n, 10) ** 2 <= square)

@@ -6,7 +6,7 @@ python3 tests/judge/reference.py console
 It serves to test run.py.  Bounds are the whole numbers next to the exact
 parts and shares, peaks come from sixteen steps between the entries of the peak
 table, a breaking figure is the least whole number not below its sum.  --fault
-plants one of faults.py or breaking_faults.py.
+plants one of faults.py, breaking_faults.py or unit_faults.py.
 """
 
 import argparse
@@ -22,7 +22,8 @@ from judge import NO_AMPERES, Amperes, Bench, verdict
 from shares import RootSum, Shares
 
 CALL = re.compile(r"(start|bus|source|close|query|breaking|write)((?:,(?:0|[1-9][0-9]{0,9}))*)")
-COUNTS = {"start": 1, "bus": 10, "source": 7, "close": 0, "query": 1, "breaking": 3, "write": 1}
+COUNTS = {"start": [1], "bus": [10], "source": [7, 12], "close": [0], "query": [1]}
+COUNTS |= {"breaking": [3], "write": [1]}
 READ = re.compile(r"read,((?:[0-9a-fA-F]{2})*)")
 TABLE = [peak_thousandths(i) for i in range(231)]
 
@@ -33,6 +34,7 @@ class StandIn:
     study_class = Study
     network_class = Network
     shares_class = Shares
+    counts = COUNTS
     benches = {}
 
     def __init__(self):
@@ -148,7 +150,7 @@ class StandIn:
         if not call:
             return "error,no such call"
         numbers = [int(field) for field in call[2].split(",")[1:]]
-        if len(numbers) != COUNTS[call[1]] or any(number >= 2**32 for number in numbers):
+        if len(numbers) not in self.counts[call[1]] or any(number >= 2**32 for number in numbers):
             return "error,wrong numbers"
         return self.answer_call(call[1], numbers)
 
@@ -212,8 +214,9 @@ class InProcess:
 def main():
     from breaking_faults import BREAKING_FAULTS
     from faults import FAULTS
+    from unit_faults import UNIT_BREAKING_FAULTS, UNIT_FAULTS
 
-    faults = FAULTS | BREAKING_FAULTS
+    faults = FAULTS | BREAKING_FAULTS | UNIT_FAULTS | UNIT_BREAKING_FAULTS
     parser = argparse.ArgumentParser(description=__doc__.splitlines()[0])
     parser.add_argument("role", choices=["program", "console"])
     parser.add_argument("--fault", choices=sorted(faults))

@@ -11,25 +11,37 @@ from networks import write_file
 
 GREATEST = 2**32 - 1
 
-# The accepted base: rows counted from 1, the start being row 1.
+# The accepted base: rows counted from 1, the start being row 1.  Its motor has the twelve
+# numbers of a source, the unit must have them, and the others have seven.
 BASE = [
     ("B", (0, 20000, 0, 0, 0, 0, 0, 0, 20000, 60000)),
     ("P", (1, 0, 500000, 10, 0, 0, 0)),
     ("B", (0, 20000, 1, 100, 300, 1000, 2, 0, 15000, 60000)),
     ("B", (1, 400, 2, 20000, 400, 630, 6000, 1000, 30000, 70000)),
     ("P", (2, 2, 400, 500, 15000, 10, 90)),
-    ("P", (3, 2, 400, 100, 50, 42, 0)),
+    ("P", (3, 2, 400, 100, 50, 42, 0, 0, 0, 0, 0, 0)),
     ("P", (4, 1, 1000, 150, 0, 0, 0)),
+    ("P", (5, 1, 6300, 12000, 14000, 4, 85, 6000, 21000, 12500, 8000, 500)),
 ]
-ROOT, FEEDER_ROW, LINE_ROW, TRANSFORMER_ROW, GENERATOR_ROW, MOTOR_ROW, CONVERTER_ROW = range(2, 9)
+ROOT, FEEDER_ROW, LINE_ROW, TRANSFORMER_ROW = range(2, 6)
+GENERATOR_ROW, MOTOR_ROW, CONVERTER_ROW, UNIT_ROW = range(6, 10)
+SOURCE_ROWS = FEEDER_ROW, GENERATOR_ROW, MOTOR_ROW, CONVERTER_ROW, UNIT_ROW
 PARENT, VOLTS, KIND, FIRST, SECOND, THIRD, FOURTH, FIFTH, RATING, PEAK_RATING = range(10)
-SOURCE_KIND, SOURCE_BUS, ONE, TWO, THREE, FOUR, FIVE = range(7)
+SOURCE_KIND, SOURCE_BUS, ONE, TWO, THREE, FOUR, FIVE, LOW, HIGH, KVA, UK, UR = range(12)
+
+
+def filled(numbers):
+    """A source's numbers as twelve."""
+    return (*numbers, *[0] * (12 - len(numbers)))
 
 
 def changed(rows, changes):
-    """Rows with some fields set: {(row, field): value}."""
+    """Rows with some fields set: {(row, field): value}; a field behind a source's seven fills its row."""
     rows = [(letter, list(numbers)) for letter, numbers in rows]
     for (row, field), value in changes.items():
+        letter, numbers = rows[row - 2]
+        if field >= len(numbers):
+            rows[row - 2] = letter, list(filled(numbers))
         rows[row - 2][1][field] = value
     return [(letter, tuple(numbers)) for letter, numbers in rows]
 
@@ -101,6 +113,7 @@ def source_field_misses():
         (CONVERTER_ROW, TWO, 100, 300),
         *((FEEDER_ROW, field, 0, 0) for field in (THREE, FOUR, FIVE)),
         *((CONVERTER_ROW, field, 0, 0) for field in (THREE, FOUR, FIVE)),
+        *((row, field, 0, 0) for row in SOURCE_ROWS[:4] for field in (LOW, HIGH, KVA, UK, UR)),
     ):
         found += ends(row, field, low, high, 12)
     for row in (GENERATOR_ROW, MOTOR_ROW):
@@ -108,10 +121,67 @@ def source_field_misses():
     return found
 
 
+def unit_field_misses():
+    """Fields and volts of a unit.  Generator and high volts have no range of their own: 0 and
+    the greatest number, and one whose tenfold is right but for 32 bits, are refused by ratio."""
+    found = []
+    for field, low, high in (
+        (TWO, 10, 10**6),
+        (THREE, 1000, 100000),
+        (FOUR, 0, 200),
+        (FIVE, 70, 100),
+        (KVA, 10, 10**6),
+        (UR, 0, 7999),
+    ):
+        found += ends(UNIT_ROW, field, low, high, 12)
+    found += ends(UNIT_ROW, UK, 100, 30000, 12, {(UNIT_ROW, UR): 0})
+    for uk in (100, 30000):
+        found += ends(UNIT_ROW, UR, 0, uk - 1, 12, {(UNIT_ROW, UK): uk})
+    found += ends(UNIT_ROW, ONE, 5400, 6600, 32) + ends(UNIT_ROW, HIGH, 18000, 22000, 13)
+    for field, number, volts in ((ONE, 32, (0, 429502730)), (HIGH, 13, (0, 429516730))):
+        for value in volts:
+            rows = changed(BASE, {(UNIT_ROW, field): value})
+            name = f"ground {number}: unit's field {field + 1} is {value}"
+            found.append(miss(name, rows, number, UNIT_ROW))
+    for changes in ({UK: 0, UR: 0}, {UK: 0, UR: GREATEST}, {UK: 99, UR: 0}, {LOW: 0, ONE: 0}):
+        rows = changed(BASE, {(UNIT_ROW, field): value for field, value in changes.items()})
+        found.append(miss(f"ground 12: unit with {changes}", rows, 12, UNIT_ROW))
+    return found + unit_low_misses()
+
+
+def unit_low_misses():
+    """Low volts at the ends of their range, and generator volts at 9/10 and 11/10 of them."""
+    found = []
+    for low in (89, 90, 91, 101, 105, 399, 6003, 461999, 462000, 462001, GREATEST):
+        least, greatest = (9 * low + 9) // 10, 11 * low // 10
+        for volts in (least - 1, least, low, greatest, greatest + 1):
+            number = 12 if not 90 <= low <= 462000 else 0 if least <= volts <= greatest else 32
+            changes = {(UNIT_ROW, LOW): low, (UNIT_ROW, ONE): min(volts, GREATEST)}
+            name = f"ground {number or 32}: {volts} V generator on low side of {low}"
+            found.append(miss(name, changed(BASE, changes), number, UNIT_ROW))
+    return found
+
+
+def row_length_misses():
+    """Rows of seven and of twelve numbers: the same but for a unit, which needs what seven lack."""
+    twelve = [(letter, filled(numbers) if letter == "P" else numbers) for letter, numbers in BASE]
+    seven = [(letter, numbers[:7] if letter == "P" else numbers) for letter, numbers in BASE]
+    found = [
+        miss("accepted: every source of twelve numbers", twelve, 0, 0),
+        miss("accepted: sources of seven numbers", seven[:-1], 0, 0),
+        miss("ground 12: unit of seven numbers", seven, 12, UNIT_ROW),
+    ]
+    for changes, number in (({SOURCE_KIND: 6}, 10), ({SOURCE_BUS: 3}, 11), ({ONE: GREATEST}, 12)):
+        rows = changed(seven, {(UNIT_ROW, field): value for field, value in changes.items()})
+        found.append(miss(f"ground {number}: seven numbers with {changes}", rows, number, UNIT_ROW))
+    return found
+
+
 def reference_misses():
     """Buses that are not there, kinds that are none, and a line between two voltages."""
     found = []
-    for row, count in ((FEEDER_ROW, 1), (GENERATOR_ROW, 3), (MOTOR_ROW, 3), (CONVERTER_ROW, 3)):
+    for row in SOURCE_ROWS:
+        count = 1 if row == FEEDER_ROW else 3
         for bus in (count, count + 1, BUSES, GREATEST):
             rows = changed(BASE, {(row, SOURCE_BUS): bus})
             found.append(miss(f"ground 11: row {row} at bus {bus}", rows, 11, row))
@@ -123,10 +193,14 @@ def reference_misses():
         for kind in kinds:
             rows = changed(BASE, {(row, KIND): kind})
             found.append(miss(f"ground 4: row {row} of kind {kind}", rows, 4, row))
-    for row in (FEEDER_ROW, GENERATOR_ROW, MOTOR_ROW, CONVERTER_ROW):
-        for kind in (0, 5, GREATEST):
+    for row in SOURCE_ROWS:
+        for kind in (0, 6, GREATEST):
             rows = changed(BASE, {(row, SOURCE_KIND): kind})
             found.append(miss(f"ground 10: row {row} of kind {kind}", rows, 10, row))
+    for row, kinds in (*((row, [5]) for row in SOURCE_ROWS[:4]), (UNIT_ROW, (1, 2, 3, 4))):
+        for kind in kinds:
+            rows = changed(BASE, {(row, SOURCE_KIND): kind})
+            found.append(miss(f"ground 12: row {row} taken for kind {kind}", rows, 12, row))
     for volts in (19999, 20001, 400, 420000):
         rows = changed(BASE, {(LINE_ROW, VOLTS): volts})
         found.append(miss(f"ground 6: line to {volts} V", rows, 6, LINE_ROW))
@@ -134,7 +208,8 @@ def reference_misses():
 
 
 def single_field_misses():
-    return bus_field_misses() + source_field_misses() + reference_misses()
+    found = bus_field_misses() + source_field_misses() + unit_field_misses()
+    return found + row_length_misses() + reference_misses()
 
 
 def lone_bus(volts, feeder=(1, 0, 500000, 10, 0, 0, 0)):
@@ -160,9 +235,10 @@ def volts_misses():
                 miss(f"ground 7: {rated} V rated on {volts}", head + [bus], 0 if fits else 7, 4)
             )
             motor = ("P", (3, 0, rated, 100, 50, 42, 0))
-            found.append(
-                miss(f"ground 13: {rated} V rated on {volts}", head + [motor], 0 if fits else 13, 4)
-            )
+            unit = ("P", (5, 0, 99, 10, 1000, 0, 100, 90, rated, 10, 100, 99))
+            for name, record in (("motor", motor), ("unit", unit)):
+                name = f"ground 13: {name} of {rated} V on {volts}"
+                found.append(miss(name, head + [record], 0 if fits else 13, 4))
     return found
 
 
@@ -198,7 +274,7 @@ def order_misses():
     second_feeder = BASE + [BASE[1]]
     found = [
         miss("ground 14: feeder at bus 1", feeder_at_1, 14, 5),
-        miss("ground 14: second feeder", second_feeder, 14, 9),
+        miss("ground 14: second feeder", second_feeder, 14, len(BASE) + 2),
         miss("ground 25: start alone", [], 25, 1),
         miss("ground 25: start alone, no end", [], 25, 1, last_end=False),
         miss("ground 25: buses alone", [BASE[0], BASE[2], BASE[3]], 25, 4),
@@ -206,7 +282,7 @@ def order_misses():
         miss("accepted: base, no end", BASE, 0, 0, last_end=False),
         miss("accepted: base at tolerance 10", BASE, 0, 0, tolerance=10),
     ]
-    for source in (BASE[4], BASE[5], BASE[6]):
+    for source in BASE[4:]:
         first = [BASE[0], BASE[2], BASE[3], source, BASE[1]]
         found.append(miss(f"ground 14: kind {source[1][0]} first", first, 14, 5))
     for tolerance in (0, 5, 7, 9, 11, 60, GREATEST):
@@ -284,7 +360,23 @@ def fault_subsets():
         first = 22001 if 7 in grounds else 22000
         row = ("B", (parent, volts, kind, first, 20000, kva, 100, 99, 1, peak))
         found.append((f"transformer with grounds {grounds}", transformer_rows, row, grounds[0]))
-    found += source_subsets()
+    return found + source_subsets() + unit_subsets()
+
+
+def unit_subsets():
+    """Order 5 tries 32 between 13 and 14.  A field out of range is the generator's or the
+    transformer's, volts are beyond either end."""
+    found = []
+    buses = [BASE[0], BASE[2], BASE[3]]
+    for grounds in subsets((10, 11, 12, 13, 32, 14)):
+        head = buses if 14 in grounds else buses + [BASE[1]]
+        kind, bus = (6 if 10 in grounds else 5), (3 if 11 in grounds else 0)
+        for name, kva, ur, high, rated in (("low", 9, 99, 17999, 5399), ("high", 10, 100, 22001, 6601)):
+            kva, ur = (kva, ur) if 12 in grounds else (10, 99)
+            high = high if 13 in grounds else 20000
+            rated = rated if 32 in grounds else 6000
+            record = (kind, bus, rated, kva, 1000, 0, 70, 6000, high, 10, 100, ur)
+            found.append((f"unit {name} with grounds {grounds}", head, ("P", record), grounds[0]))
     return found
 
 
@@ -295,10 +387,12 @@ def source_subsets():
         bus = 3 if 11 in grounds else 0
         wrong = 12 in grounds
         rated = 17999 if 13 in grounds else 18000
-        generator = (5 if 10 in grounds else 2, bus, rated, 9 if wrong else 10, 1000, 0, 70)
+        generator = (6 if 10 in grounds else 2, bus, rated, 9 if wrong else 10, 1000, 0, 70)
         motor = (0 if 10 in grounds else 3, bus, rated, 1, 101 if wrong else 100, 0, 0)
+        filled_generator = (*generator[:3], 10, *generator[4:], 0, 0, 0, 0, int(wrong))
         head = buses if 14 in grounds else buses + [BASE[1]]
-        for name, record in (("generator", generator), ("motor", motor)):
+        machines = ("generator", generator), ("filled generator", filled_generator), ("motor", motor)
+        for name, record in machines:
             found.append((f"{name} with grounds {grounds}", head, ("P", record), grounds[0]))
         if 13 in grounds or 10 in grounds:
             continue

@@ -1,11 +1,12 @@
 """Run the program and the console against the exact judge.
 
 python3 tests/judge/run.py --program target/bin/noldveig --console target/bin/console
-    --seed 1 --networks 200 --bytes 500 --calls 100 --writes 100 --breakings 100
+    --seed 1 --networks 200 --bytes 500 --calls 100 --writes 100 --breakings 100 --units 100
 
 The fixed set always runs; the seed adds drawn networks, broken texts, lists of
-calls, studies that are written, read back and written again, and networks asked
-for breaking currents.  Give an empty --program or --console to leave that one out.
+calls, studies that are written, read back and written again, networks asked for
+breaking currents, and networks with power station units.  Give an empty --program
+or --console to leave that one out.
 """
 
 import argparse
@@ -16,7 +17,7 @@ import sys
 import time
 from multiprocessing import Pool
 
-from cases import drawn_units, fixed_units, run_unit
+from cases import DRAWN_TOGETHER, drawn_units, fixed_units, run_unit
 from check import Tally
 
 SHOWN_WHOLE = 3
@@ -127,6 +128,7 @@ def main(arguments=None):
     parser.add_argument("--calls", type=int, default=60)
     parser.add_argument("--writes", type=int, default=60)
     parser.add_argument("--breakings", type=int, default=60)
+    parser.add_argument("--units", type=int, default=60)
     parser.add_argument("--jobs", type=int, default=1)
     options = parser.parse_args(arguments)
     for command in (options.program, options.console):
@@ -134,9 +136,8 @@ def main(arguments=None):
             parser.error(f"no program {command}")
     runner = Commands(options.program, options.console)
     begun = time.monotonic()
-    units = fixed_units()
-    drawn = options.networks, options.bytes, options.calls, options.writes, options.breakings
-    units += drawn_units(options.seed, *drawn)
+    counts = {kind: getattr(options, kind) for kind in DRAWN_TOGETHER}
+    units = fixed_units() + drawn_units(options.seed, counts)
     tally, passed, failed = Tally(), 0, 0
     for unit_passed, failures, unit_tally in outcomes(runner, units, options.jobs):
         tally.add(unit_tally)

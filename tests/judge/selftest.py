@@ -19,21 +19,26 @@ from breaking_faults import BREAKING_FAULTS
 from breakings import BROKEN, drawn_breakings, every_tenth, fixed_breakings, tuned
 from calls import as_calls, carried_out, drawn_calls, line_of
 from cases import Unit, breaking_case, breaking_units, drawn_unit, fixed_units, run_unit
-from exact import CONVERTER, GENERATOR, f_millionths, peak_thousandths, series, sine, transformer_ux
+from confirm import Printed, confirmed
+from exact import CONVERTER, GENERATOR, UNIT
+from exact import f_millionths, peak_thousandths, series, sine, transformer_ux
 from faults import FAULTS
 from fixed import fixed_networks, table_steps
 from judge import Amperes, Bench, peak_reasons, verdict
-from networks import FAMILIES, any_network, crowd, full_tree, random_tree
+from networks import FAMILIES, any_network, crowd, full_tree, random_tree, rated_ends
 from plain import PlainNetwork, table_factor
 from reference import InProcess, StandIn
-from refusals import BASE, chain_rows, lone_bus, near_misses
+from refusals import BASE, chain_rows, filled, lone_bus, near_misses
 from run import Commands
 from shares import TABLES, RootSum, Square, compare_roots
 from texts import meant_texts, spoil
+from unit_faults import UNIT_BREAKING_FAULTS, UNIT_FAULTS
+from unit_networks import UNIT_FAMILIES, fixed_unit_networks, with_units
 from writes import WRITTEN, back_calls, first_calls, fixed_writings, longest_rows
 from writes import study_after, text_of, told_apart
 
 BENCH = Bench()
+GENERATORS = GENERATOR, UNIT
 
 
 class Tests:
@@ -102,6 +107,39 @@ def worked_networks(tests):
     tests.true("a further machine lowers the current", currents[1].ceiling() < currents[0].floor())
 
 
+def worked_units(tests):
+    """Order 5 by hand.  t² is 121 and K_S·(1 + |xd − xT|·0.6) is 100·1.1/121, or 10/11; Z_G is
+    0.2, 0.1 and 0.1 + j0.2 Ω, the last times 1.05², which K_S takes off again from all."""
+    name, draft = fixed_unit_networks()[0]
+    study = study_of(draft)
+    plain = PlainNetwork(6, study.buses, study.sources)
+    first = Fraction(10, 11) / Fraction("1.06")
+    third = Fraction(10, 11) / Fraction("1.072")
+    own = third / Fraction("1.1025")
+    for place, r, x in (
+        (1, 0, first * Fraction("34.2")),
+        (2, 0, first * Fraction("32.1")),
+        (3, third * Fraction("12.1") + own * 6, third * Fraction("24.2") + own * 8),
+    ):
+        source = study.sources[place]
+        a, b, d = study.network().machine(source)
+        tests.same(f"{name}: Z of source {place}", (Fraction(a, d), Fraction(b, d)), (r, x))
+        z = plain.machine(source)
+        tests.same(f"{name}: plain Z of source {place}", (z.re, z.im), (r, x))
+
+
+def rows_of_seven(tests, count=60):
+    """A row of seven numbers is read as if filled with zeros."""
+    for n in range(count):
+        draft = any_network(Random(f"seven {n}"))[1]
+        study = study_of(draft)
+        draft.rows = [(letter, filled(row) if letter == "P" else row) for letter, row in draft.rows]
+        tests.same(f"network {n} in rows of twelve", vars(study_of(draft)), vars(study))
+        rows = study.text().split(b"\r\n")
+        commas = {row[:1]: {other.count(b",") for other in rows if other[:1] == row[:1]} for row in rows}
+        tests.same(f"network {n} written", (commas[b"B"], commas[b"P"]), ({10}, {12}))
+
+
 def worked_grounds(tests):
     head = Study()
     for letter, numbers in lone_bus(20000):
@@ -137,16 +175,31 @@ def full_tables(tests, study):
     tests.same("the 257th to the 512th source and the 513th", numbers, [0] * 256 + [24])
 
 
-def against_plain(tests, count=60):
-    """Sweeps and gathered formulas against fractions and recursion."""
+def small_networks(count):
+    """Small networks of the fixed set, drawn ones without units and with them."""
     drafts = [("fixed", draft) for _, draft in fixed_networks() if len(draft.buses) <= 4][:20]
+    drafts += [(name, draft) for name, draft in fixed_unit_networks() if len(draft.buses) <= 8]
+    for n in range(count // 3):
+        drafts.append((f"units {n}", small_with_units(Random(f"units {n}"))))
     for n in range(count):
         rng = Random(n)
         name, draft = any_network(rng)
         if len(draft.buses) > 9 or draft.sources > 12:
             name, draft = "random_tree", random_tree(rng, rng.randint(2, 8), rng.randint(1, 9))
         drafts.append((f"{name} {n}", draft))
-    for name, draft in drafts:
+    return drafts
+
+
+def small_with_units(rng):
+    draft = with_units(rng)[1]
+    while len(draft.buses) > 7 or draft.sources > 9:
+        draft = with_units(rng)[1]
+    return draft
+
+
+def against_plain(tests, count=60):
+    """Sweeps and gathered formulas against fractions and recursion."""
+    for name, draft in small_networks(count):
         study = study_of(draft)
         plain = PlainNetwork(study.tolerance, study.buses, study.sources)
         for b, judge in enumerate(BENCH.judges(study.network())):
@@ -167,7 +220,7 @@ def against_plain(tests, count=60):
 
 def against_floats(tests):
     """Large networks against the plain recursion in floating point, some buses of each."""
-    for n, family in enumerate(family for family in FAMILIES for _ in range(3)):
+    for n, family in enumerate(family for family in FAMILIES + UNIT_FAMILIES for _ in range(3)):
         study = study_of(family(Random(n)))
         plain = PlainNetwork(study.tolerance, study.buses, study.sources)
         judges = BENCH.judges(study.network())
@@ -239,15 +292,47 @@ def drawn_sizes(tests, count=1000):
         tests.true(f"one in twenty has {name}", 20 * sum(larger) >= count)
 
 
+def unit_relations(source, volts):
+    """What a unit has to show of the relations between its fields, in words."""
+    rated, kva, xd, _, power_factor = source.fields
+    low, high, transformer_kva, uk, ur = source.transformer
+    ux = transformer_ux(uk, ur)
+    yield f"xd {('below', 'at', 'above')[(xd > ux) - (xd < ux) + 1]} ux"
+    yield f"low volts {('below', 'at', 'above')[(low > high) - (low < high) + 1]} high volts"
+    for name, given, against in (("generator volts", rated, low), ("high volts", high, volts)):
+        least, greatest = rated_ends(against)
+        yield f"{name} {'at 9/10' if given == least else 'at 11/10' if given == greatest else 'between'}"
+    yield f"power factor {power_factor if power_factor in (70, 100) else 'between'}"
+    yield f"uk 100 and uR 99: {(uk, ur) == (100, 99)}"
+    if {kva, transformer_kva} == {10, 10**6}:
+        yield f"kVA {kva} to {transformer_kva}"
+
+
+def drawn_relations(tests, count=400):
+    """Each relation is drawn as a matter of course, and units stand on all levels."""
+    met = Counter()
+    for n in range(count):
+        study = study_of(with_units(Random(f"relations {n}"))[1])
+        units = [source for source in study.sources if source.kind == UNIT]
+        tests.true(f"network {n} has a unit", units)
+        for source in units:
+            met.update(unit_relations(source, study.buses[source.bus].volts))
+            met[f"{study.depth(study.buses[source.bus])[1]} transformers from bus 0"] += 1
+    print(f"units of {count} networks drawn: {', '.join(f'{name} {met[name]}' for name in sorted(met))}")
+    tests.same("relations of units", len(met), 3 + 3 + 3 + 3 + 3 + 2 + 2 + 5)
+    tests.true("each of them often", min(met.values()) >= count // 40)
+
+
 BASE_TEXT = (
     b"S,10\r\n"
     b"B,0,20000,0,0,0,0,0,0,20000,60000\r\n"
     b"B,0,20000,1,100,300,1000,2,0,15000,60000\r\n"
     b"B,1,400,2,20000,400,630,6000,1000,30000,70000\r\n"
-    b"P,1,0,500000,10,0,0,0\r\n"
-    b"P,2,2,400,500,15000,10,90\r\n"
-    b"P,3,2,400,100,50,42,0\r\n"
-    b"P,4,1,1000,150,0,0,0\r\n"
+    b"P,1,0,500000,10,0,0,0,0,0,0,0,0\r\n"
+    b"P,2,2,400,500,15000,10,90,0,0,0,0,0\r\n"
+    b"P,3,2,400,100,50,42,0,0,0,0,0,0\r\n"
+    b"P,4,1,1000,150,0,0,0,0,0,0,0,0\r\n"
+    b"P,5,1,6300,12000,14000,4,85,6000,21000,12500,8000,500\r\n"
 )
 
 
@@ -272,6 +357,7 @@ def written_and_read(tests):
     longest = study_after([("start", 10), *as_calls(longest_rows()), ("close",)])
     most = len(longest.text())
     studies = [longest] + [study_of(any_network(Random(n))[1]) for n in range(60)]
+    studies += [study_of(with_units(Random(n))[1]) for n in range(60)]
     studies += [Study().read(meant.text)[2] for meant in near_misses() if meant.number == 0]
     for n, study in enumerate(studies):
         number, row, again = Study().read(study.text())
@@ -314,6 +400,29 @@ def refused_calls(tests):
             if number and study is not before:
                 tests.true(f"refused {name} leaves the study", False)
     tests.true("refused calls leave the study", True)
+
+
+def units_confirmed(tests):
+    """What `board --confirm` asks for: six amperes, the figure and two bounds for each generator and
+    unit, and a unit's bound that is one too high told by name."""
+    study = study_of(dict(fixed_unit_networks())["units beside all other kinds"])
+    stand_in = StandIn()
+    stand_in.study = study
+    printed = []
+    for bus, record in enumerate(study.buses):
+        amperes, table = stand_in.amperes(study, bus), [0] * 2 * len(study.sources)
+        figure = stand_in.breaking(bus, 100, table)[1]
+        letter = verdict(amperes, record)[0]
+        head = bus, record.volts, record.rating, record.peak_rating
+        printed.append(Printed(*head, tuple(amperes), letter, figure, tuple(table)))
+    got = confirmed(study.text(), printed, 100)
+    tests.same("units confirmed", got, (3, 3 * (6 + 1 + 2 * 6), 3, []))
+    unit = next(place for place, source in enumerate(study.sources) if source.kind == UNIT)
+    table = list(printed[0].table)
+    table[2 * unit] += 1
+    wrong = [printed[0]._replace(table=tuple(table)), *printed[1:]]
+    words = "; ".join(words for _, words in confirmed(study.text(), wrong, 100).differences)
+    tests.true(f"a unit's share not confirmed: {words}", f"source {unit}: lower" in words)
 
 
 def judge_borders(tests):
@@ -413,7 +522,8 @@ def shares_against_plain(tests, count=40):
     """Factors by branch against the division at each bus as it is written."""
     for n in range(count):
         rng = Random(f"shares {n}")
-        study = study_of(random_tree(rng, rng.randint(1, 6), rng.randint(1, 8)))
+        draft = random_tree(rng, rng.randint(1, 6), rng.randint(1, 8)) if n % 2 else small_with_units(rng)
+        study = study_of(draft)
         plain = PlainNetwork(study.tolerance, study.buses, study.sources)
         for b in range(len(study.buses)):
             judge = breaking_judge(study, b)
@@ -432,7 +542,7 @@ def shares_against_plain(tests, count=40):
 
 def shares_against_floats(tests):
     """Large networks by voltages in floating point, some machines at some buses."""
-    for n, family in enumerate(FAMILIES):
+    for n, family in enumerate(FAMILIES + UNIT_FAMILIES):
         study = study_of(family(Random(f"floats {n}")))
         plain = PlainNetwork(study.tolerance, study.buses, study.sources)
         for b in {0, len(study.buses) - 1}:
@@ -457,7 +567,7 @@ class InFloats(StandIn):
         return self.worked[1]
 
     def factor(self, source, current, delay):
-        if source.kind != GENERATOR:
+        if source.kind not in GENERATORS:
             return 1.0
         volts, kva = source.fields[:2]
         q = current * 3**0.5 * volts / (1000 * kva)
@@ -476,7 +586,7 @@ class InFloats(StandIn):
             if source.kind != CONVERTER:
                 share, current = plain.share_nearly(bus, source)
                 figure += share * self.factor(source, current, delay)
-                if source.kind == GENERATOR:
+                if source.kind in GENERATORS:
                     bounds = int(share * (1 - self.margin)), int(share * (1 + self.margin)) + 1
                     table[2 * place : 2 * place + 2] = bounds
         return 0, int(figure * (1 + self.margin)) + 1
@@ -500,9 +610,9 @@ def two_reached(tests):
     signs = []
     for plan in plans:
         study = study_of(plan.draft)
-        place = next(i for i, source in enumerate(study.sources) if source.kind == GENERATOR)
+        place = next(i for i, source in enumerate(study.sources) if source.kind in GENERATORS)
         signs.append(breaking_judge(study, 0).shares[place].q_square.compare(4))
-    tests.same("q about 2", signs, [-1, 0, 1] * 4)
+    tests.same("q about 2", signs, [-1, 0, 1] * 10)
 
 
 def sums_of_roots(tests):
@@ -636,7 +746,7 @@ def by_processes(tests):
     here = __file__.rpartition("/")[0] or "."
     commands = [f"{sys.executable} {here}/reference.py {role}" for role in ("program", "console")]
     units = fixed_units()
-    drawn = ("writes", 2, range(3)), ("breakings", 2, range(3))
+    drawn = ("writes", 2, range(3)), ("breakings", 2, range(3)), ("units", 2, range(3))
     for unit in (*units[:3], units[5], units[-1], *breaking_units()[:2], *drawn):
         outcome = run_unit(Commands(*commands), unit, BENCH)
         tests.true("stand-in by processes", outcome.passed and not outcome.failures)
@@ -651,6 +761,7 @@ def planted_faults(tests):
     drawn = [drawn_unit("bytes", 1, range(50)), drawn_unit("calls", 1, range(5))]
     drawn.append(drawn_unit("writes", 1, range(20)))
     drawn.append(drawn_unit("breakings", 1, range(20)))
+    drawn.append(drawn_unit("units", 1, range(20)))
     refused, failing = set(), set()
     for unit in units + drawn:
         outcome = run_unit(InProcess(StandIn), unit, BENCH)
@@ -658,10 +769,10 @@ def planted_faults(tests):
         for failure in outcome.failures:
             print(f"{failure.name}: {failure.reason}")
         tests.true("no fault planted", outcome.passed and not outcome.failures)
-    tests.same("grounds met", refused, set(range(1, 17)) | set(range(21, 26)) | {30, 31})
+    tests.same("grounds met", refused, set(range(1, 17)) | set(range(21, 26)) | {30, 31, 32})
     breakings = breaking_units()
-    tried = [(*fault, units) for fault in FAULTS.items()]
-    tried += [(*fault, breakings) for fault in BREAKING_FAULTS.items()]
+    tried = [(*fault, units) for fault in (FAULTS | UNIT_FAULTS).items()]
+    tried += [(*fault, breakings) for fault in (BREAKING_FAULTS | UNIT_BREAKING_FAULTS).items()]
     for name, stand_in, among in tried:
         found = None
         for unit in among:
@@ -680,16 +791,20 @@ def main():
     tests = Tests()
     worked_factors(tests)
     worked_networks(tests)
+    worked_units(tests)
+    rows_of_seven(tests)
     worked_grounds(tests)
     against_plain(tests)
     against_floats(tests)
     meant_numbers(tests)
     editions(tests)
     drawn_sizes(tests)
+    drawn_relations(tests)
     written_by_hand(tests)
     written_and_read(tests)
     answers_told_apart(tests)
     refused_calls(tests)
+    units_confirmed(tests)
     judge_borders(tests)
     each_table_entry(tests)
     worked_factors_of_q(tests)

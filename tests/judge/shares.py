@@ -1,6 +1,6 @@
 """Exact shares of the machines in a fault current, the factor μ, and sums of roots (order 3).
 
-Written from order 3 of document 02 and from document 01 alone.  The square of
+Written from orders 3 and 5 of document 02 and from document 01 alone.  The square of
 a share is a fraction whose numbers grow with the branches on the way, so it is
 kept as a chain of factors.  Comparisons go by an enclosure of the product
 first; only what that cannot tell is worked out from the whole fraction, so each
@@ -11,7 +11,7 @@ from fractions import Fraction
 from math import isqrt
 from typing import NamedTuple
 
-from exact import GENERATOR, series
+from exact import UNIT, series
 
 # μ of each delay is first + second·e^(−third·q), all in hundredths
 FORMULAS = {20: (84, 26, 26), 50: (71, 51, 30), 100: (62, 72, 32), 250: (56, 94, 38)}
@@ -176,6 +176,11 @@ class Shares:
         volts, kva = source.fields[:2]
         return 3 * volts**2, (1000 * kva) ** 2
 
+    def to_terminals(self, source):
+        """Rated volts at a generator's bus over those at its terminals: a unit has its own on
+        the low side of its transformer."""
+        return (source.high_volts, source.low_volts) if source.kind == UNIT else (1, 1)
+
     def passing(self, b, n):
         """The factor of a branch passed from b to n, None where no machine is behind it."""
         if (b, n) not in self.passed:
@@ -232,10 +237,12 @@ class Shares:
 
     def share(self, source, size, way, ratio):
         square = Square(size.top, size.bottom, size.span, way)
-        if source.kind != GENERATOR:
+        if not self.network.is_generator(source):
             return Share(square, None)
         top, bottom = self.rated_square(source)
-        return Share(square, square.times(top * ratio.numerator, bottom * ratio.denominator))
+        left, arrived = self.to_terminals(source)
+        top, bottom = top * ratio.numerator * left**2, bottom * ratio.denominator * arrived**2
+        return Share(square, square.times(top, bottom))
 
 
 # Sums of roots

@@ -2,9 +2,10 @@
 
 from accept import BUSES, SOURCES
 from networks import write_file, write_row
-from refusals import BASE, GREATEST, NearMiss, lone_bus
+from refusals import BASE, GREATEST, NearMiss, filled, lone_bus
 
 TEXT = write_file(6, BASE)
+UNIT_TEXT = write_file(6, BASE[:3] + BASE[-1:])
 SMALL = write_file(6, lone_bus(20000))
 WRONG_FIELDS = [
     b"",
@@ -57,11 +58,13 @@ def field_spans(text):
 
 
 def field_faults():
-    """Each wrong field at each place of a small file: ground 16 at its row."""
+    """Each wrong field at each place of a small file, and at what a unit alone has: ground 16 at its row."""
+    places = [(SMALL, span) for span in field_spans(SMALL)]
+    places += [(UNIT_TEXT, span) for span in field_spans(UNIT_TEXT)[-5:]]
     found = []
-    for row, start, end in field_spans(SMALL):
+    for whole, (row, start, end) in places:
         for wrong in WRONG_FIELDS:
-            text = SMALL[:start] + wrong + SMALL[end:]
+            text = whole[:start] + wrong + whole[end:]
             found.append(NearMiss(f"ground 16: {wrong!r} at byte {start}", text, 16, row))
     return found
 
@@ -85,6 +88,19 @@ def letter_faults():
     wrong_rows += [b"BP" + feeder[1:], b"#", b'"P"' + feeder[1:], b" " + feeder, feeder + b" "]
     for wrong in wrong_rows:
         found.append(broken(f"row 3 is {wrong!r}", head + wrong + b"\r\n" + feeder, 3))
+    return found
+
+
+def count_faults():
+    """Sources of any other count than seven and twelve numbers, the record right, refused or a unit's."""
+    head = b"".join(write_row(*row) + b"\r\n" for row in [("S", [6]), BASE[0]])
+    feeder, unit = BASE[1][1], (5, 0, *BASE[-1][1][2:])
+    found = []
+    for name, numbers in (("feeder", feeder), ("kind 9", (9, *feeder[1:])), ("unit", unit)):
+        longest = (*filled(numbers), 0, 0, 0, 0)
+        for count in (*range(7), *range(8, 12), *range(13, 17)):
+            text = head + write_row("P", longest[:count]) + b"\r\n"
+            found.append(broken(f"{name} of {count} numbers", text, 3))
     return found
 
 
@@ -129,7 +145,7 @@ def whole_text_faults():
 
 
 def row_faults():
-    return letter_faults() + line_end_faults() + whole_text_faults()
+    return letter_faults() + count_faults() + line_end_faults() + whole_text_faults()
 
 
 def company_of_form():
@@ -162,7 +178,7 @@ def long_texts():
         over = size > 65536
         ends, half = divmod(size - 5, 2)
         for name, text, number, row in (
-            ("last row all digits", TEXT + b"9" * (size - len(TEXT)), 16, 9),
+            ("last row all digits", TEXT + b"9" * (size - len(TEXT)), 16, len(BASE) + 2),
             ("behind S,7", b"S,7\r\n" + b"x" * (size - 5), 1, 1),
             ("of ends", b"S,6\r\n" + b"\r\n" * ends + b"\r" * half, 16, 2),
             ("in row 1", b"S,6" + b"6" * (size - 3), 16, 1),

@@ -14,6 +14,7 @@ from fixed import drawn_once
 from networks import amount, any_network
 from refusals import BASE, record_misses
 from texts import SMALL, TEXT
+from unit_networks import units_drawn_once, units_together, with_units
 
 KEEPS = ("query", "breaking", "write", "other")
 ACCEPTED = re.compile(r"0,(0|[1-9][0-9]{0,9}),((?:[0-9a-f]{2})*)")
@@ -75,6 +76,7 @@ def written_without_refused():
         ("bus", (0, 20000, 1, 100, 300, 1000, 9, 0, 15000, 60000)),
         ("source", (4, 0, 1000, 99, 0, 0, 0)),
         ("source", (2, BUSES, 400, 500, 15000, 10, 90)),
+        ("source", (5, 0, 5399, 500, 15000, 10, 90, 6000, 20000, 500, 6000, 0)),
         ("query", 0),
         ("other", "hello"),
     ]
@@ -138,7 +140,8 @@ def longest_bus(number):
 # All machines stand at the first bus whose number has the most digits, so that they can be
 # added between the buses behind it.
 HOME = first_as_long(BUSES - 1)
-LONGEST_SOURCE = ("P", (2, HOME, 462000, 10**6, 100000, 200, 100))
+LONGEST_UNIT = 508200, 10**6, 100000, 200, 100, 462000, 462000, 10**6, 30000, 29999
+LONGEST_SOURCE = ("P", (5, HOME, *LONGEST_UNIT))
 
 
 def longest_rows():
@@ -258,7 +261,7 @@ def fixed_writings():
     plan("base at 10", 10, BASE)
     plan("motor at low voltage, 10", 10, LOW_VOLTAGE)
     plan("full tables", 10, longest_rows())
-    for name, draft in drawn_once():
+    for name, draft in drawn_once() + units_together() + units_drawn_once():
         if len(draft.rows) <= 50:
             plan(name, draft.tolerance, draft.rows)
     return found
@@ -289,7 +292,7 @@ def call_between(rng, rows, study):
 
 def drawn_making(rng):
     """A network read, or added call by call with refused calls between."""
-    _, draft = any_network(rng)
+    _, draft = (any_network if rng.random() < 0.6 else with_units)(rng)
     if rng.random() < 0.3:
         return [("read", draft.file())]
     study, found = Study(draft.tolerance), [("start", draft.tolerance)]
