@@ -117,10 +117,9 @@ pub fn station_unit(
         volts,
         10,
     );
-    let c = voltage_factor(tolerance, volts);
     scale(
         z,
-        c,
+        voltage_factor(tolerance, volts),
         1_000_000_000 + difference(xd, ux) * sine(power_factor),
     )
 }

@@ -9,7 +9,8 @@ use lib.ListN.{length, getD}
 use Rattle.network.specs.Network.{Limits}
 use Rattle.reader.specs.File.{letterB, letterP, rows, Outcome, refusedAt, readIn}
 
--- the edition of document 01: "At most 64 buses, 256 sources."
+-- the limits of the edition of document 01: "At most 64 buses, 256 sources." An edition is told by its limits alone, and reads rows as this
+-- one does: of a text whose source rows have seven fields each it is the edition of document 01 itself, which knows no others
 abbrev pub firstEdition : Limits
 firstEdition = record { buses = 64; sources = 256 }
 

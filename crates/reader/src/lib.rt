@@ -137,8 +137,8 @@ fn read_rows(text: &[u8]) -> Reading
 }
 
 // The study that a text gives, closed, or the first ground on which it is refused, with the row. By the clause `calls` it is a study that
-// calls made, so that whatever a query promises of such a study holds of what was read; `edition` says what the edition of document 01,
-// with room for fewer records, makes of the text.
+// calls made, so that whatever a query promises of such a study holds of what was read; `edition` says what an edition with document 01's
+// room for records makes of the text.
 pub fn read(text: &[u8]) -> Reading
     ensures number { λ r. ⌜ r .number ≡ readOf (now (text .entry)) .number ⌝ }
     ensures row { λ r. ⌜ r .row ≡ readOf (now (text .entry)) .row ⌝ }
