@@ -8,9 +8,12 @@ sys.path.insert(0, str(Path(__file__).resolve().parent.parent))
 from desk import lettering, oneline  # noqa: E402
 from desk.layout import Box, Item  # noqa: E402
 from desk.oneline import Line, Transformer  # noqa: E402
+from desk.records import CONVERTER, FEEDER, GENERATOR, MOTOR, STATION_UNIT  # noqa: E402
 
 SVG = "{http://www.w3.org/2000/svg}"
 LEAST_TEXT = 9
+# Of the symbol of each kind of source: how many circles it has, and its letter. Two of a unit's are its transformer.
+SYMBOLS = {FEEDER: (0, ""), GENERATOR: (1, "G"), MOTOR: (1, "M"), CONVERTER: (0, ""), STATION_UNIT: (3, "G")}
 
 
 # ---- boxes
@@ -248,8 +251,12 @@ def label_faults(bus, group):
 
 
 def source_faults(bus, group):
-    """The counts in the tooltips of a bus's symbols are those of its sources."""
-    told = [g.find(f"{SVG}title").text for g in group if g.get("data-item") == "source"]
+    """The counts in the tooltips of a bus's symbols are those of its sources, and each symbol is that of its kind."""
+    symbols = [g for g in group if g.get("data-item") == "source"]
+    drawn = sorted((len(g.findall(f"{SVG}circle")), words_in(g)) for g in symbols)
+    if drawn != sorted(SYMBOLS[kind] for kind in {source.kind for source in bus.sources}):
+        return [f"bus {bus.number}: the symbols of its sources are {drawn}"]
+    told = [g.find(f"{SVG}title").text for g in symbols]
     due = []
     for kind in sorted({source.kind for source in bus.sources}):
         count = sum(source.kind == kind for source in bus.sources)
