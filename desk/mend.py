@@ -114,10 +114,10 @@ STEPS = (
 def mended(text):
     """The text as it should be, as far as that is certain, and the changes."""
     text, decoded = plain(text)
-    if wide(text) and not decoded:  # a damaged UTF-16 text, whose bytes mean nothing one by one
+    bare, bared = unmarked(text)
+    if wide(bare) and not decoded:  # a UTF-16 text that is damaged or stands behind another mark: its bytes mean nothing one by one
         return text, []
-    text, bared = unmarked(text)
-    lines, changes = lines_of(text), decoded + bared
+    lines, changes = lines_of(bare), decoded + bared
     for step in STEPS:
         lines, more = step(lines)
         changes = changes + more
