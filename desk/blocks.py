@@ -9,21 +9,24 @@ get in all is tried out: the drawing is made that can be printed largest on one 
 from math import inf
 from typing import NamedTuple
 
+from desk.records import FEEDER, STATION_UNIT
+
 from . import lettering
-from .oneline import FEEDER, Bus, Group, Line, Transformer, branch_words, groups, kilovolts
+from .oneline import Bus, Group, Line, Transformer, branch_words, groups, kilovolts
 
 BAR = 6  # thickness of a busbar
 CAP = 15  # half of the crossbar of a bus that is entered from above
 STEP = 58  # from a bar to the bars of its branches on the right
 ENTRY = 20  # how far below its top an upright bar is entered
 OUT = 9  # from the middle of a bar to what stands beside it
-SYMBOL = 20  # sides of a source's symbol
+SYMBOL = 20  # sides of a source's symbol; that of a power station unit is wider
 STUB = 12  # wire between a bar and a source's symbol
 SOURCE_ROW = 24
 GAP, COLUMN_GAP = 7, 22  # between branches below each other, and between columns
 AFTER = 8  # more space below a side branch with several buses
 DROP, MARKED_DROP, TRANSFORMER_DROP = 16, 24, 42  # length of a branch straight down: plain, with a number of circuits, ..
 TRANSFORMER = (28, 18)  # two circles, along the wire and across
+LINK = 4  # wire between transformer and generator in the symbol of a power station unit
 PAD = 4  # around the text of a label
 BADGE = 18
 MARGIN = 24  # around the drawing
@@ -118,6 +121,11 @@ def source_run(group):
     return Run(lettering.fitted(lettering.clean(group.label), SIZES["small"], False, SOURCE_ROOM), "small")
 
 
+def symbol_width(kind):
+    """The width of a source's symbol: a power station unit is a transformer and, behind it, a generator."""
+    return TRANSFORMER[0] + LINK + SYMBOL if kind == STATION_UNIT else SYMBOL
+
+
 def line_width(line):
     return sum(run.width() for run in line)
 
@@ -128,7 +136,7 @@ def head_of(bus):
     label_height = PAD + sum(PITCH[line[0].style] for line in lines) + 1
     above = [group for group in groups(bus.sources) if group.kind == FEEDER and bus.number == 0]
     rest = [group for group in groups(bus.sources) if group not in above]
-    source_widths = [STUB + BAR / 2 + SYMBOL + 5 + source_run(group).width() for group in above + rest]
+    source_widths = [STUB + BAR / 2 + symbol_width(group.kind) + 5 + source_run(group).width() for group in above + rest]
     return Head(bus, lines, rest, above, label_width, label_height, max([OUT + label_width] + source_widths))
 
 

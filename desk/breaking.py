@@ -7,7 +7,7 @@ import re
 from typing import NamedTuple
 
 from desk import console
-from desk.records import GENERATOR, listed, rows_of
+from desk.records import GENERATORS, listed, rows_of
 from desk.trouble import Trouble
 
 DELAYS = ("20", "50", "100", "250")  # ms from the fault until a breaker opens, at the least; document 02, order 3
@@ -18,7 +18,8 @@ GROUNDS = {15: "there is no such bus", 22: "the study is not closed", 30: "the t
 
 
 class Breaking(NamedTuple):
-    """The breaking current of a bus, and of each source the lower and upper bound of its share, 0 and 0 but of generators."""
+    """The breaking current of a bus, and of each source the lower and upper bound of its share, 0 and 0 but of generators, alone or in
+    power station units."""
     figure: int
     bounds: tuple
 
@@ -47,7 +48,7 @@ def breaking_in(said, kinds):
 
 def are_bounds(pair, kind):
     lower, upper = pair
-    return lower <= upper and (kind == GENERATOR or upper == 0)
+    return lower <= upper and (kind in GENERATORS or upper == 0)
 
 
 def breakings(text, delay):

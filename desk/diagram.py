@@ -11,9 +11,11 @@ from math import cos, pi, sin
 from xml.sax.saxutils import escape
 
 from . import lettering
-from .blocks import BADGE, PAD, PITCH, SIZES, SYMBOL, TRANSFORMER
-from .layout import WIRE, Box, layout, summary
-from .oneline import CONVERTER, FEEDER, GENERATOR, KIND_WORDS, MOTOR, VERDICT_WORDS, branch_words, kilovolts
+from desk.records import CONVERTER, FEEDER, GENERATOR, MOTOR, STATION_UNIT
+
+from .blocks import BADGE, LINK, PAD, PITCH, SIZES, SYMBOL, TRANSFORMER, symbol_width
+from .layout import WIRE, Box, layout, legend_width, summary
+from .oneline import KIND_WORDS, VERDICT_WORDS, branch_words, kilovolts
 
 INK, MUTED, PAPER = "#1c1c1c", "#4a4a4a", "#ffffff"
 COLOURS = {"W": "#00796b", "O": "#b00020", "C": "#8a5a00", "": INK}
@@ -95,11 +97,21 @@ def converter_symbol(box):
             + mark("path", d=wave, fill="none", stroke=INK, stroke_width=1.2))
 
 
+def station_unit_symbol(box):
+    """A generator behind its own transformer, which stands at the bus."""
+    middle, (long, wide) = (box.top + box.bottom) / 2, TRANSFORMER
+    near = Box(box.left, middle - wide / 2, box.left + long, middle + wide / 2)
+    return (transformer_symbol(near, "across") + stroke(near.right - WIRE / 2, middle, near.right + LINK + WIRE / 2, middle)
+            + machine_symbol(Box(box.right - SYMBOL, box.top, box.right, box.bottom), "G"))
+
+
 def source_symbol(kind, box):
     if kind == FEEDER:
         return feeder_symbol(box)
     if kind == CONVERTER:
         return converter_symbol(box)
+    if kind == STATION_UNIT:
+        return station_unit_symbol(box)
     return machine_symbol(box, {GENERATOR: "G", MOTOR: "M"}[kind])
 
 
@@ -167,12 +179,12 @@ def wire(box):
 
 
 def legend(symbol, run, box):
-    middle, wide = (box.top + box.bottom) / 2, TRANSFORMER[0]
+    middle, wide = (box.top + box.bottom) / 2, legend_width(symbol)
     if symbol in VERDICT_WORDS:
         drawn = badge(symbol, box.left + wide / 2, middle)
     elif symbol in KIND_WORDS:
-        left = box.left + (wide - SYMBOL) / 2
-        drawn = source_symbol(symbol, Box(left, box.top, left + SYMBOL, box.bottom))
+        left = box.left + (wide - symbol_width(symbol)) / 2
+        drawn = source_symbol(symbol, Box(left, box.top, left + symbol_width(symbol), box.bottom))
     elif symbol == "transformer":
         drawn = transformer_symbol(Box(box.left, middle - 9, box.left + wide, middle + 9), "across")
     else:

@@ -25,7 +25,7 @@ NOTE = """\
 The margin is what the rating has left above the upper bound of the current; with a minus sign it is how far the lower bound is
 above the rating, as in the verdict. The current before it is that bound. Where the rating lies between the two bounds, "close"
 stands in place of a margin, and the current is the upper bound. A peak has one figure, no lower than the exact one and above it by
-at most 0.15 % plus 2 A. The machines are the feeder, the generators and the motors.
+at most 0.15 % plus 2 A. The machines are the feeder, the generators, alone or in power station units, and the motors.
 
 The converters' part is a plain sum: each converter of the network counts at every bus, with its rated current times k carried over
 the transformers by their rated voltages. The 2016 edition of IEC 60909-0 weighs a converter by its transfer impedance: it then

@@ -10,7 +10,7 @@ from desk.oneline import VERDICT_WORDS
 from desk.ordering import suggestion
 from desk.outcome import Refused
 from desk.plan.fields import TOLERANCE
-from desk.records import GENERATOR
+from desk.records import GENERATORS
 from desk.show import visible
 from desk.table import verdict_words
 
@@ -67,7 +67,7 @@ def study_entry(study, figures):
 def breaking_entry(outcome):
     """The breaking current of each bus, and the share of each generator, which is called by its place among the sources."""
     sources = inputs_of(outcome.study).sources
-    generators = [place for place, source in enumerate(sources) if source["source kind"] == GENERATOR]
+    generators = [place for place, source in enumerate(sources) if source["source kind"] in GENERATORS]
     buses = [{"bus": number, "breaking_A": one.figure,
               "shares": [{"source": place, "lower_A": one.bounds[place][0], "upper_A": one.bounds[place][1]} for place in generators]}
              for number, one in enumerate(outcome.breakings)]

@@ -2,7 +2,7 @@
 import re
 
 from desk.numbers import around, oddities, shifted, value_of
-from desk.records import COUNTS, ROWS, allowed, fields_of, label, listed, rows_of, summary
+from desk.records import ROWS, allowed, counts_of, fields_of, label, listed, rows_of, summary
 from desk.show import Finding, shown
 from desk.texts import BLANKS
 
@@ -78,11 +78,12 @@ def of_fields(line, places):
         return []
     fields = list(enumerate(places[1:]))
     values = [value_of(line[slice(*place)]) for place in places[1:]]
-    due = COUNTS[letter]
-    surplus = b"".join(line[slice(*place)] for _, place in fields[due:])
-    if len(fields) > due and not surplus.strip(BLANKS):
-        return of_oddities(line, fields[:due], letter, values) + [of_trailing(places, due)]
-    pairs = split_numbers(line, fields) if len(fields) > due else []
+    counts = counts_of(letter, values)
+    for due in counts:
+        surplus = b"".join(line[slice(*place)] for _, place in fields[due:])
+        if len(fields) > due and not surplus.strip(BLANKS):
+            return of_oddities(line, fields[:due], letter, values) + [of_trailing(places, due)]
+    pairs = split_numbers(line, fields) if len(fields) not in counts and len(fields) > counts[0] else []
     halves = {right for _, right in pairs}
     whole = [field for field in fields if field not in halves]
     return of_oddities(line, whole, letter, values) + of_count(places, letter, values, pairs)
@@ -118,16 +119,17 @@ def of_trailing(places, due):
 
 def of_count(places, letter, values, pairs):
     """Too many fields, or too few; `pairs` are neighbours that look like one number with a comma in it."""
-    found, due = len(places) - 1, COUNTS[letter]
-    if found == due:
+    found, counts = len(places) - 1, counts_of(letter, values)
+    if found in counts:
         return []
     names = summary(letter, () if pairs else values)  # a number in two parts moves the kind away from its place
-    words = f"The number of fields behind {letter} is wrong: found are {found}, expected {due} ({names})."
+    words = f"The number of fields behind {letter} is wrong: found are {found}, expected {listed(counts, 'or')} ({names})."
     end = places[-1][1]
-    if found < due:
+    if found < counts[0]:
         return [Finding(words, ((end, end),))]
     if not pairs:
-        return [Finding(words, ((places[due + 1][0], end),))]
+        last = max(count for count in counts if count < found)
+        return [Finding(words, ((places[last + 1][0], end),))]
     looks = f"{len(pairs)} commas look like separators of thousands or decimals" if len(pairs) > 1 else \
         "The comma marked looks like a separator of thousands or decimals"
     return [Finding(f"{words} {looks}: {COMMA}.", tuple((left[1][0], right[1][1]) for left, right in pairs))]

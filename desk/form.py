@@ -7,7 +7,7 @@ these.
 import re
 
 from desk.fields import START, of_fields, of_letter, split_at
-from desk.records import COUNTS, MOST_BYTES, ROWS, rows_of
+from desk.records import MOST_BYTES, ROWS, counts_of, rows_of
 from desk.show import Finding
 from desk.texts import BLANKS, LINE_END, MARK, MOST_READ, Line, is_void, lines_of, wide
 
@@ -118,25 +118,25 @@ def is_header(bare):
 
 
 def wanted(line):
-    """How many fields the row's letter wants; 0 where it is no row letter."""
+    """How many fields the row's letter wants, the most first; nothing where it is no row letter."""
     letter = line.strip(b" \t\"'")[:1].upper().decode("latin-1")
-    return COUNTS.get(letter, 0)
+    return counts_of(letter)[::-1] if letter in ROWS else ()
 
 
 def words_behind(line):
     """Where words begin that stand behind the last field of a row, as a person would remark on it; else the row's end."""
     places = split_at(line, b",;")
-    count = wanted(line)
-    if not count or len(places) <= count:
-        return len(line)
-    found = BEHIND.fullmatch(line, places[count][0])
-    return found.start(1) if found and LETTER.search(found.group(1)) else len(line)
+    for count in wanted(line):
+        found = BEHIND.fullmatch(line, places[count][0]) if count < len(places) else None
+        if found and LETTER.search(found.group(1)):
+            return found.start(1)
+    return len(line)
 
 
 def cut_up(text, line):
     """Where the parts of a row stand, its letter first, and what is wrong with the separators between them."""
     if b";" in line:
-        alone = b"," not in line or len(split_at(line, b";")) == wanted(line) + 1
+        alone = b"," not in line or len(split_at(line, b";")) - 1 in wanted(line)
         return split_at(line, b";" if alone else b",;"), [of_separators(text, line, b";", "Semicolons")]
     if b"\t" in line.strip(BLANKS) and b"," not in line:
         return split_at(line, b"\t"), [of_separators(text, line, b"\t", "Tabs")]

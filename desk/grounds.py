@@ -7,16 +7,18 @@ from typing import NamedTuple
 
 from desk.fields import split_at
 from desk.numbers import value_of
-from desk.records import (BRANCHES, COUNTS, FEEDER, LINE, MOST_BRANCHES, MOST_BUSES, MOST_SOURCES, MOST_TRANSFORMERS, ROWS, SOURCES,
-                          TRANSFORMER, allowed, fields_of, is_allowed, kind_of, label, listed, measured, place_of, rows_of)
+from desk.records import (BRANCHES, FEEDER, LINE, MOST_BRANCHES, MOST_BUSES, MOST_SOURCES, MOST_TRANSFORMERS, ROWS, SOURCES,
+                          TRANSFORMER, allowed, counts_of, fields_of, filled, is_allowed, kind_of, label, listed, measured, place_of,
+                          rows_of)
 from desk.show import Finding
 
 
 class Record(NamedTuple):
-    """A row of the file, its number from 1, its letter and the values of its fields."""
+    """A row of the file, its number from 1, its letter, the values of its fields, and how many of them the row has."""
     row: int
     letter: str
     values: tuple
+    given: int  # the others, at its end, are read as 0
 
 
 class Case(NamedTuple):
@@ -32,8 +34,8 @@ def record_of(row, content):
     letter, *fields = content.split(b",")
     values = tuple(value_of(field) for field in fields)
     letter = letter.decode("latin-1")
-    whole = letter in ROWS and len(values) == COUNTS[letter] and None not in values
-    return Record(row, letter, values) if whole else None
+    whole = letter in ROWS and len(values) in counts_of(letter) and None not in values
+    return Record(row, letter, filled(letter, values), len(values)) if whole else None
 
 
 def case_of(text, number):
@@ -47,9 +49,9 @@ def case_of(text, number):
 
 
 def places(content, wanted):
-    """Where the fields of these numbers, from 0, stand in a row."""
+    """Where the fields of these numbers, from 0, stand in a row; one that it leaves out would stand at its end."""
     cut = split_at(content, b",")[1:]
-    return tuple(cut[k] for k in wanted)
+    return tuple(cut[k] if k < len(cut) else (len(content), len(content)) for k in wanted)
 
 
 class Fault(NamedTuple):
@@ -69,7 +71,19 @@ def out_of_range(record):
         if not is_allowed(field, values[k], letter, values):
             due = allowed(field, letter, values)
             faults.append(Fault(f"{label(field, k)} is {measured(values[k], field.unit)}; allowed is {due}.", (k,), field.ground))
-    return faults + both_zero(record)
+    return without_left_out(record, faults) + both_zero(record)
+
+
+def without_left_out(record, faults):
+    """The faults, those of fields that the row leaves out as one: a kind that uses them was entered in a row without them."""
+    left_out = [fault for fault in faults if fault.fields[0] >= record.given]
+    if not left_out:
+        return faults
+    kind, count = kind_of(record.letter, record.values), len(record.values)
+    names = ", ".join(field.name for field in fields_of(record.letter, record.values)[record.given:])
+    words = (f"The row has {record.given} fields, so that fields {record.given + 1} to {count} ({names}) are read as 0; "
+             f"a {kind.name} has all {count}.")
+    return [fault for fault in faults if fault not in left_out] + [Fault(words, (record.given,), left_out[0].ground)]
 
 
 def both_zero(record):
@@ -135,13 +149,12 @@ def line_volts(case):
                   "a line joins equal nominal voltages.", (1,))]
 
 
-def rated(field, k, value, bus, volts):
-    """A rated voltage outside 9/10 to 11/10 of the nominal voltage; the ends in whole volts."""
+def rated(field, k, value, other, volts):
+    """A rated voltage outside 9/10 to 11/10 of another voltage, which `other` gives in words; the ends in whole volts."""
     low, high = -(-9 * volts // 10), 11 * volts // 10
     if low <= value <= high:
         return []
-    return [Fault(f"{label(field, k)} is {value:,} V; {bus} has a nominal voltage of {volts:,} V, so that allowed is "
-                  f"{low:,} to {high:,} V.", (k,))]
+    return [Fault(f"{label(field, k)} is {value:,} V; {other} {volts:,} V, so that allowed is {low:,} to {high:,} V.", (k,))]
 
 
 def transformer_volts(case):
@@ -159,8 +172,21 @@ def machine_volts(case):
 
 def rated_fields(case, sides):
     fields = fields_of(case.record.letter, case.record.values)
-    return [fault for k, field in enumerate(fields) if field.rated_at in sides
-            for fault in rated(field, k, case.record.values[k], *sides[field.rated_at])]
+    found = []
+    for k, field in enumerate(fields):
+        if field.rated_at in sides:
+            bus, volts = sides[field.rated_at]
+            found += rated(field, k, case.record.values[k], f"{bus} has a nominal voltage of", volts)
+    return found
+
+
+def unit_volts(case):
+    """A rated voltage that has to suit another of the same record: the generator's in a power station unit."""
+    letter, values = case.record.letter, case.record.values
+    fields = fields_of(letter, values)
+    pairs = [(k, place_of(letter, values, field.suits)) for k, field in enumerate(fields) if field.suits]
+    return [fault for k, other in pairs
+            for fault in rated(fields[k], k, values[k], f"{label(fields[other], other)} is", values[other])]
 
 
 def way(case):
@@ -238,7 +264,7 @@ FINDERS = {
     1: ("S", ranges(1)), 2: ("B", ranges(2)), 3: ("B", parent), 4: ("B", branch_kind), 5: ("B", ranges(5)), 6: ("B", line_volts),
     7: ("B", transformer_volts), 8: ("B", depth), 9: ("B", ranges(9)), 10: ("P", source_kind), 11: ("P", source_bus),
     12: ("P", ranges(12)), 13: ("P", machine_volts), 14: ("P", feeder), 23: ("B", full_buses), 24: ("P", full_sources),
-    25: ("SB", no_source),
+    25: ("SB", no_source), 32: ("P", unit_volts),
 }
 
 

@@ -43,10 +43,11 @@ options
         Nothing is rounded: a plan in which something would have to be is refused, with the places.
     --breaking MS
         Adds the breaking current Ib for a minimum delay of MS, which is 20, 50, 100 or 250 ms: a column of the table, and
-        below it a table of who contributes how much. This has for each bus its generators, the largest share first: the
-        lower and the upper bound of the share, in amperes and before the factor μ, and the upper in percent of Ib. Generators
-        alike at one bus stand in one line, added up. What comes to less than 1 % of Ib is left out; a last line says how
-        many generators these are and what they come to at most. Where that would be one line alone, it is listed instead.
+        below it a table of who contributes how much. This has for each bus its generators, those of power station units too,
+        the largest share first: the lower and the upper bound of the share, in amperes and before the factor μ, and the upper
+        in percent of Ib. Generators alike at one bus stand in one line, added up. What comes to less than 1 % of Ib is left
+        out; a last line says how many generators these are and what they come to at most. Where that would be one line
+        alone, it is listed instead.
         Ib contains besides the feeder and the motors with μ = 1 and the converters in full; of these there are no bounds.
         The figures come from the proved program target/bin/console, as with --write.
     --units
@@ -78,12 +79,12 @@ options
         or with `-`, it goes to standard output.
     --rows IN [OUT]
         Writes a plan as rows, with CRLF, in the same way. Only rows that the program accepts are written. They are the same
-        bytes that --write gives for the plan.
+        bytes that --write gives for the plan, with all twelve numbers of each source.
     --write IN [OUT]
-        Writes rows or a plan as tidy rows, in the same way: S, all buses, all sources, each row with CRLF. Buses and sources
-        keep their order, so that no bus gets another number. It says how many there are and how many bytes, on standard
-        error where the rows go to standard output, and of a plan that rows have no names. The text comes from the proved
-        program target/bin/console, which is built first by `rt check console` where it is not there yet.
+        Writes rows or a plan as tidy rows, in the same way: S, all buses, all sources with all twelve numbers, each row with
+        CRLF. Buses and sources keep their order, so that no bus gets another number. It says how many there are and how many
+        bytes, on standard error where the rows go to standard output, and of a plan that rows have no names. The text comes
+        from the proved program target/bin/console, which is built first by `rt check console` where it is not there yet.
     --svg IN [OUT]
         Draws rows or a plan as a one-line diagram, in the same way: an SVG file with the upper bound of the initial
         current, the peak and the verdict of each bus, by colour, letter and shape. A browser opens and prints it.

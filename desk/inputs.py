@@ -55,7 +55,7 @@ class Entries(NamedTuple):
 
 
 TITLES = {"bus": "Buses", "line": "Lines", "transformer": "Transformers", "feeder": "Feeder", "generator": "Generators",
-          "motor": "Motors", "converter": "Converters"}
+          "motor": "Motors", "converter": "Converters", "unit": "Power station units"}
 
 
 def heading_of(field, unit):

@@ -7,7 +7,7 @@ from typing import NamedTuple
 
 from . import lettering
 from .blocks import (BAR, CAP, ENTRY, GAP, MARGIN, OUT, SIZES, SOURCE_ROW, STEP, STUB, SYMBOL, TRANSFORMER, Run, best_block,
-                     source_run)
+                     source_run, symbol_width)
 from .oneline import KIND_WORDS, VERDICT_WORDS, Line, Transformer
 
 WIRE = 1.6  # thickness
@@ -85,8 +85,9 @@ def branch_down(bus, x, top, bottom):
 
 def source_items(number, group, x, y, run):
     """Symbol and label of a group of sources; x is the symbol's left edge and y its middle."""
-    yield Item("source", number, Box(x, y - SYMBOL / 2, x + SYMBOL, y + SYMBOL / 2), group)
-    left = x + SYMBOL + 5
+    right = x + symbol_width(group.kind)
+    yield Item("source", number, Box(x, y - SYMBOL / 2, right, y + SYMBOL / 2), group)
+    left = right + 5
     yield Item("source label", number, Box(left, y - 7, left + run.width(), y + 7), (run, group))
 
 
@@ -187,12 +188,17 @@ def legend_entries(buses):
     return entries + ([("transformer", "transformer")] if Transformer in branches else [])
 
 
+def legend_width(symbol):
+    """The width of a symbol of the legend: all have the same, as long as they have room in it."""
+    return max(TRANSFORMER[0], symbol_width(symbol))
+
+
 def legend_items(entries, top, room):
     """The entries in rows, as many in each as there is room for."""
     x, y = MARGIN, top
     for symbol, words in entries:
         run = Run(words, "plain")
-        wide = TRANSFORMER[0] + 6 + run.width()
+        wide = legend_width(symbol) + 6 + run.width()
         if x > MARGIN and x + wide > MARGIN + room:
             x, y = MARGIN, y + LEGEND_ROW
         yield Item("legend", None, Box(x, y, x + wide, y + SYMBOL), (symbol, run))

@@ -4,7 +4,8 @@ Each step takes the lines of the text, and gives the lines after it with the row
 """
 from typing import NamedTuple
 
-from desk.records import COUNTS
+from desk.numbers import value_of
+from desk.records import ROWS, counts_of
 from desk.texts import BLANKS, MARK, Line, is_void, joined, lines_of, wide
 
 
@@ -80,21 +81,23 @@ def without_blanks(content):
 def letter_of(content):
     """The row letter that a row begins with, capital or small; nothing where it is none."""
     letter = content.split(b",")[0].decode("latin-1").upper()
-    return letter if letter in COUNTS else ""
+    return letter if letter in ROWS else ""
 
 
 def without_last_separators(content):
-    """Commas behind the last field go, where the row then has as many fields as its letter wants."""
+    """Commas behind the last field go, where the row then has as many fields as its letter and its kind want."""
     letter = letter_of(content)
-    wanted = COUNTS[letter] + 1 if letter else 0
     fields = content.split(b",")
-    return b",".join(fields[:wanted]) if letter and not any(fields[wanted:]) else content
+    for wanted in counts_of(letter, [value_of(field) for field in fields[1:]]) if letter else ():
+        if not any(fields[wanted + 1:]):
+            return b",".join(fields[:wanted + 1])
+    return content
 
 
 def with_capital(content):
     """A small letter alone before the first comma, in a row with as many fields as that letter wants, can mean nothing else."""
     letter = letter_of(content)
-    fits = letter and content.count(b",") == COUNTS[letter]
+    fits = letter and content.count(b",") in counts_of(letter)
     return content[:1].upper() + content[1:] if fits else content
 
 
@@ -111,10 +114,10 @@ STEPS = (
 def mended(text):
     """The text as it should be, as far as that is certain, and the changes."""
     text, decoded = plain(text)
-    if wide(text) and not decoded:  # a damaged UTF-16 text, whose bytes mean nothing one by one
+    bare, bared = unmarked(text)
+    if wide(bare) and not decoded:  # a UTF-16 text that is damaged or stands behind another mark: its bytes mean nothing one by one
         return text, []
-    text, bared = unmarked(text)
-    lines, changes = lines_of(text), decoded + bared
+    lines, changes = lines_of(bare), decoded + bared
     for step in STEPS:
         lines, more = step(lines)
         changes = changes + more

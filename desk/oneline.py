@@ -4,9 +4,8 @@ No current is calculated here: bounds that the program printed are added up and 
 """
 from typing import NamedTuple
 
-from desk.records import SOURCES
+from desk.records import FEEDER, GENERATOR, MOTOR, SOURCES, STATION_UNIT
 
-FEEDER, GENERATOR, MOTOR, CONVERTER = 1, 2, 3, 4
 KIND_WORDS = {number: (kind.name, kind.name + "s") for number, kind in SOURCES.items()}
 VERDICT_WORDS = {"W": "within", "O": "over", "C": "close"}
 NO_SOURCE = 25  # the one ground that is not the fault of the row that it names
@@ -25,7 +24,7 @@ class Transformer(NamedTuple):
 
 
 class Source(NamedTuple):
-    kind: int  # 1 feeder, 2 generator, 3 motor, 4 converter
+    kind: int  # its number in a row
     label: str
 
 
@@ -82,11 +81,13 @@ def branch_words(branch):
 
 
 def source_label(kind, fields):
-    """The short label of a source from the five fields of its row."""
+    """The short label of a source from the fields of its row behind its bus."""
     if kind == FEEDER:
         return f"{power(fields[0])}, R/X {decimal(fields[1], 2)}"
     if kind == GENERATOR:
         return f"{power(fields[1])}, xd {decimal(fields[2], 3)} %"
+    if kind == STATION_UNIT:
+        return f"{power(fields[1])}, xd {decimal(fields[2], 3)} %, {decimal(fields[6], 3)}/{kilovolts(fields[5])}"
     if kind == MOTOR:
         return power(fields[1])
     return f"{decimal(fields[0], 1)} A, k {decimal(fields[1], 2)}"

@@ -19,9 +19,10 @@ STANDARD = element("span", "IEC 60909-0", class_="kept")
 ALONE = "default-src 'none'; style-src 'unsafe-inline'"  # the browser is to fetch nothing and to run nothing
 MEANINGS = (
     ("machines, converters", """
-     The parts of the initial symmetrical short-circuit current I\u2033k that come from the feeder, the generators and the motors, and from
-     the converters; each from a lower to an upper bound. The converters' part is a plain sum: the rated current times k of every
-     converter counts in full at every bus, carried over the transformers by their rated voltages. It is on the safe side."""),
+     The parts of the initial symmetrical short-circuit current I\u2033k that come from the feeder, the generators, alone or in power
+     station units, and the motors, and from the converters; each from a lower to an upper bound. The converters' part is a plain sum:
+     the rated current times k of every converter counts in full at every bus, carried over the transformers by their rated voltages.
+     It is on the safe side."""),
     ("peak", "The peak short-circuit current ip of both parts together."),
     ("over", "The peak is above its rating, or the sum of the lower bounds is above the rating."),
     ("within", """

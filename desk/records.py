@@ -2,8 +2,10 @@
 
 It is data for explaining what the program refused, and for a plan that becomes records (desk/plan); the program alone refuses.
 A new kind of source is an entry of SOURCES, a wider range or a higher limit a number below; desk/plan/fields.py then has the
-plan's keys for it. The figures are those of document 01, "The study" and "The file", and the limits those of order 2 of document 02.
+plan's keys for it. The figures are those of document 01, "The study" and "The file", the limits those of order 2 of document 02, and
+the power station unit is its order 5.
 """
+from itertools import groupby
 from typing import NamedTuple
 
 MOST_BYTES = 65_536
@@ -14,11 +16,12 @@ MOST_SOURCES = 512
 MOST_BRANCHES = 18
 MOST_TRANSFORMERS = 4
 BRANCH_FIELDS = 5  # in a row, those that depend on the kind of its branch
-SOURCE_FIELDS = 5  # the same of a source; the two counts have nothing to do with each other
+SOURCE_FIELDS = 10  # the same of a source
+SHORT_SOURCE_FIELDS = 5  # behind these a row of a source may end, as all did before order 5; it has nothing to do with branches
 TRANSFORMER = 2
 LINE = 1
-FEEDER = 1
-GENERATOR = 2
+FEEDER, GENERATOR, MOTOR, CONVERTER, STATION_UNIT = 1, 2, 3, 4, 5
+GENERATORS = (GENERATOR, STATION_UNIT)  # sources whose shares in a breaking current have bounds
 
 
 class Field(NamedTuple):
@@ -30,6 +33,7 @@ class Field(NamedTuple):
     high: int = LARGEST
     choices: tuple = ()  # the only values, where they are no range
     rated_at: str = ""   # a rated voltage: "parent" or "bus", whose nominal voltage it has to suit
+    suits: str = ""      # a rated voltage: the name of the field whose rated voltage it has to suit
     below: str = ""      # the name of the field that it has to stay below
 
 
@@ -48,6 +52,7 @@ class Row(NamedTuple):
     kind_at: int        # the place of the kind among the fields
     between: str = ""   # what a field is called that depends on the kind, while the kind is not known
     last: tuple = ()
+    short: int = 0      # a row may end behind so many of those that depend on the kind, the others being 0; 0 where it has all
 
 
 def unused(ground):
@@ -75,8 +80,21 @@ def given(name, unit, low, high):
     return Field(name, 12, unit, low, high)
 
 
+THOUSANDTHS = "thousandths of a percent"
+KVA = ("kVA", 10, 1_000_000)  # of a generator and of a transformer
+UK = "short-circuit voltage uk"
+LOW_SIDE = "rated voltage on the low side"
+UNIT_POWER = "generator's rated power"
 RATIO = given("ratio R/X", "hundredths", 0, 200)
 MACHINE_VOLTS = Field("rated voltage", 13, "V", rated_at="bus")
+# of a generator behind its rated power, whether it is alone or in a power station unit
+GENERATOR_FIELDS = (given("subtransient reactance xd", THOUSANDTHS, 1_000, 100_000), RATIO, given("power factor", "hundredths", 70, 100))
+
+
+def transformer_impedance(ground):
+    """uk and uR of a transformer, which are refused with this ground: as a branch, or in a power station unit."""
+    return (Field(UK, ground, THOUSANDTHS, 100, 30_000), Field("resistive part uR", ground, THOUSANDTHS, below=UK))
+
 
 BRANCHES = {
     0: branch_kind("bus 0, which has no branch"),
@@ -90,30 +108,33 @@ BRANCHES = {
         "transformer",
         Field("rated voltage on the parent's side", 7, "V", rated_at="parent"),
         Field("rated voltage on the bus's own side", 7, "V", rated_at="bus"),
-        branch("rated power", "kVA", 10, 1_000_000),
-        branch("short-circuit voltage uk", "thousandths of a percent", 100, 30_000),
-        Field("resistive part uR", 5, "thousandths of a percent", below="short-circuit voltage uk")),
+        branch("rated power", *KVA),
+        *transformer_impedance(5)),
 }
 
 SOURCES = {
     FEEDER: source_kind("feeder", given("short-circuit power", "kVA", 1_000, 100_000_000), RATIO),
-    GENERATOR: source_kind(
-        "generator",
-        MACHINE_VOLTS,
-        given("rated power", "kVA", 10, 1_000_000),
-        given("subtransient reactance xd", "thousandths of a percent", 1_000, 100_000),
-        RATIO,
-        given("power factor", "hundredths", 70, 100)),
-    3: source_kind(
+    GENERATOR: source_kind("generator", MACHINE_VOLTS, given("rated power", *KVA), *GENERATOR_FIELDS),
+    MOTOR: source_kind(
         "motor",
         MACHINE_VOLTS,
         given("rated power", "kVA", 1, 100_000),
         given("starting ratio", "tenths", 10, 100),
         RATIO),
-    4: source_kind(
+    CONVERTER: source_kind(
         "converter",
         given("rated current", "tenths of an ampere", 1, 100_000),
         given("current ratio k", "hundredths", 100, 300)),
+    # a generator and its own transformer, at the bus on the transformer's high side
+    STATION_UNIT: source_kind(
+        "power station unit",
+        Field("generator's rated voltage", 32, "V", suits=LOW_SIDE),
+        given(UNIT_POWER, *KVA),
+        *GENERATOR_FIELDS,
+        given(LOW_SIDE, "V", 90, 462_000),
+        Field("rated voltage on the high side", 13, "V", rated_at="bus"),
+        given("transformer's rated power", *KVA),
+        *transformer_impedance(12)),
 }
 
 ROWS = {
@@ -124,7 +145,8 @@ ROWS = {
         Field("branch kind", 4)), BRANCHES, 2, "branch field", (
         Field("rated initial current", 9, "A", 1, 1_000_000),
         Field("rated peak current", 9, "A", 1, 3_000_000))),
-    "P": Row("source", (Field("source kind", 10, choices=tuple(SOURCES)), Field("bus", 11)), SOURCES, 0, "source field"),
+    "P": Row("source", (Field("source kind", 10, choices=tuple(SOURCES)), Field("bus", 11)), SOURCES, 0, "source field",
+             short=SHORT_SOURCE_FIELDS),
 }
 
 
@@ -154,9 +176,22 @@ def fields_of(letter, values=()):
     return row.first + (kind.fields if kind else unnamed(row)) + row.last
 
 
+def counts_of(letter, values=()):
+    """How many fields a row may have, the fewest first; where the values name its kind, as many as that kind uses at the least."""
+    row, kind = ROWS[letter], kind_of(letter, values)
+    whole = len(fields_of(letter))
+    needs_all = not row.short or kind and any(map(is_used, kind.fields[row.short:]))
+    return (whole,) if needs_all else (len(row.first) + row.short, whole)
+
+
+def filled(letter, values):
+    """The values of a record with 0 for those that its row leaves out at its end."""
+    return (*values, *[0] * (counts_of(letter)[-1] - len(values)))
+
+
 def named(letter, values):
     """The values of a record by the names of its fields."""
-    return {field.name: value for field, value in zip(fields_of(letter, values), values)}
+    return dict(zip([field.name for field in fields_of(letter, values)], filled(letter, values)))
 
 
 def values_of(letter, kind, by_name):
@@ -178,15 +213,13 @@ def limits(field, fields):
     return field.low, other.high - 1
 
 
-# how many fields a row of each letter has
-COUNTS = {letter: len(fields_of(letter)) for letter in ROWS}
-
-
 def summary(letter, values):
-    """The names of a row's fields, in their order."""
+    """The names of a row's fields, in their order; of several that are not used, their number."""
     row, kind = ROWS[letter], kind_of(letter, values)
     between = [field.name for field in kind.fields] if kind else [f"{len(unnamed(row))} {row.between}s"] if row.kinds else []
-    return ", ".join([field.name for field in row.first] + between + [field.name for field in row.last])
+    names = [field.name for field in row.first] + between + [field.name for field in row.last]
+    runs = [(name, len(list(run))) for name, run in groupby(names)]
+    return ", ".join(f"{count} {name}" if count > 1 else name for name, count in runs)
 
 
 def place_of(letter, values, name):
@@ -210,7 +243,7 @@ def listed(words, last="and"):
 
 
 def allowed(field, letter, values):
-    """What the program allows in a field, in words; nothing where that depends on other rows."""
+    """What the program allows in a field, in words; nothing where that depends on other rows, or on a voltage further on."""
     if field.choices:
         return measured_choices(field)
     if field.below:
@@ -226,7 +259,7 @@ def measured_choices(field):
 
 
 def is_allowed(field, value, letter, values):
-    """Whether a value is one that `allowed` names; true where that depends on other rows."""
+    """Whether a value is one that `allowed` names; true where that names none."""
     if field.choices:
         return value in field.choices
     if field.below:

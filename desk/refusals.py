@@ -21,15 +21,16 @@ GROUNDS = {
     7: "a rated voltage of the transformer is not within 9/10 to 11/10 of its bus's nominal voltage",
     8: "the bus is too deep: too many branches, or too many transformers, lead to it from bus 0",
     9: "a rating is out of range",
-    10: "the source kind is not known",
+    10: "the source kind is not 1 to 5",
     11: "there is no such bus for the source",
     12: "a source field is out of range, or is not used and not 0",
-    13: "the machine's rated voltage is not within 9/10 to 11/10 of its bus's nominal voltage",
+    13: "the rated voltage of the machine, of a power station unit on its high side, is not within 9/10 to 11/10 of its bus's nominal voltage",
     14: "the first source is not a feeder, a feeder is elsewhere than at bus 0, or it is a second one",
     16: "the text breaks the form of a study file",
     23: "the bus table is full",
     24: "the source table is full",
     25: "the study has no source",
+    32: "the rated voltage of the power station unit's generator is not within 9/10 to 11/10 of its transformer's on the low side",
 }
 NO_CAUSE = "What is wrong there this command cannot tell; the program's answer stands."
 
@@ -81,8 +82,8 @@ class Explanation(NamedTuple):
 
 
 def marked_fields(content, places):
-    """The fields of a row that places in it lie in; 0, the letter, is none."""
-    return tuple(sorted({content.count(b",", 0, start) for start, _ in places} - {0}))
+    """The fields of a row that places in it lie in; 0, the letter, is none, and at the row's end stands none."""
+    return tuple(sorted({content.count(b",", 0, start) for start, _ in places if start < len(content)} - {0}))
 
 
 def explanation(text, number, row, names=()):

@@ -16,6 +16,7 @@ from desk.verdicts import called, whole, worst_first
 
 LISTED = 8  # buses to heed that are named below the verdict of the whole
 WIDE = 118  # characters in a line of a table that an upright sheet still has room for
+COLUMNS = 9  # of a table of inputs that an upright sheet still has room for; their headings take several lines
 TALL = 1060  # px of a drawing that still fits below the heading of the first sheet; a taller one gets a sheet of its own
 LONG = 32  # characters of a name that stays on one line
 DRAWING = "drawing"
@@ -159,11 +160,17 @@ def results_part(outcome):
 
 # ---- the inputs
 
+def input_table(entries):
+    """A table of inputs; that of power station units has so many columns that it stands on a sheet that lies across."""
+    made = table(entries.title, marked_names([entries.headings, *entries.lines]), NAMES)
+    return element("div", made, class_="across") if len(entries.headings) > COLUMNS else made
+
+
 def inputs_part(outcome):
     study = outcome.study
     tolerance = rows_of(study.rows)[0].decode("ascii").split(",")[1]
     told = [element("p", f"Voltage tolerance of the low-voltage network: {tolerance} %.")]
-    told += [table(entries.title, marked_names([entries.headings, *entries.lines]), NAMES) for entries in entries_of(study)]
+    told += [input_table(entries) for entries in entries_of(study)]
     if study.roundings:
         told.append(element("p", "Rounded to the units of the program:"))
         told.append(element("ul", *[element("li", visible(one)) for one in study.roundings]))

@@ -3,7 +3,7 @@ from collections import Counter
 from typing import NamedTuple
 
 from desk.oneline import power
-from desk.records import GENERATOR, named, rows_of
+from desk.records import GENERATORS, STATION_UNIT, UNIT_POWER, named, rows_of
 from desk.table import columns, with_column
 from desk.units import WHOLE
 
@@ -16,8 +16,9 @@ with its own μ, at most 1. They are added as magnitudes, so that Ib can be abov
 notice of it: a study has no rated breaking current."""
 WHAT_SHARES_ARE = """\
 A share is the generator's own part of the initial current at the bus, as a magnitude, from a lower to an upper bound. It is
-before μ, so that the generator's part of Ib is at most the percentage shown. Generators alike stand in one line, added up. Of
-the feeder, the motors and the converters there are no bounds."""
+before μ, so that the generator's part of Ib is at most the percentage shown. Generators alike stand in one line, added up. The
+generator of a power station unit is one of them, with its terminals on the low side of the unit's transformer. Of the feeder, the
+motors and the converters there are no bounds."""
 
 
 class Share(NamedTuple):
@@ -41,10 +42,11 @@ def breaking_column(found, delay, units):
 # ---- the generators
 
 def label(values, bus_names, own_name):
-    """What a generator is called: by its name in the plan or its power, and by its bus."""
+    """What a generator is called: by its name in the plan or its power, and by its bus. One in a power station unit is called so."""
     record = named("P", values)
     bus = bus_names[record["bus"]] if bus_names else f"bus {record['bus']}"
-    return f"{own_name or power(record['rated power'])} at {bus}"
+    by_power = f"unit of {power(record[UNIT_POWER])}" if record["source kind"] == STATION_UNIT else power(record["rated power"])
+    return f"{own_name or by_power} at {bus}"
 
 
 def generators_of(text, bus_names=(), source_names=()):
@@ -52,7 +54,7 @@ def generators_of(text, bus_names=(), source_names=()):
     sources = [tuple(map(int, row.split(b",")[1:])) for row in rows_of(text) if row.startswith(b"P,")]
     own_names = source_names or [""] * len(sources)
     return {place: label(values, bus_names, own_name) for place, (values, own_name) in enumerate(zip(sources, own_names))
-            if values[0] == GENERATOR}
+            if values[0] in GENERATORS}
 
 
 # ---- their shares at a bus

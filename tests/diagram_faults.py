@@ -8,9 +8,12 @@ sys.path.insert(0, str(Path(__file__).resolve().parent.parent))
 from desk import lettering, oneline  # noqa: E402
 from desk.layout import Box, Item  # noqa: E402
 from desk.oneline import Line, Transformer  # noqa: E402
+from desk.records import CONVERTER, FEEDER, GENERATOR, MOTOR, STATION_UNIT  # noqa: E402
 
 SVG = "{http://www.w3.org/2000/svg}"
 LEAST_TEXT = 9
+# Of the symbol of each kind of source: how many circles it has, and its letter. Two of a unit's are its transformer.
+SYMBOLS = {FEEDER: (0, ""), GENERATOR: (1, "G"), MOTOR: (1, "M"), CONVERTER: (0, ""), STATION_UNIT: (3, "G")}
 
 
 # ---- boxes
@@ -247,9 +250,25 @@ def label_faults(bus, group):
     return faults
 
 
+def is_linked(symbol):
+    """Whether the generator of a power station unit stands clear of its transformer, on a wire from it; other symbols are whole."""
+    *rings, machine = [shape_box(circle) for circle in symbol.findall(f"{SVG}circle")] or [None]
+    wires = [shape_box(line) for line in symbol.findall(f"{SVG}line")]
+    if not rings:
+        return True
+    apart = machine.left - max(ring.right for ring in rings)
+    return 2 < apart < 6 and len(wires) == 1 and meet(wires[0], machine) and meet(wires[0], rings[-1])
+
+
 def source_faults(bus, group):
-    """The counts in the tooltips of a bus's symbols are those of its sources."""
-    told = [g.find(f"{SVG}title").text for g in group if g.get("data-item") == "source"]
+    """The counts in the tooltips of a bus's symbols are those of its sources, and each symbol is that of its kind."""
+    symbols = [g for g in group if g.get("data-item") == "source"]
+    drawn = sorted((len(g.findall(f"{SVG}circle")), words_in(g)) for g in symbols)
+    if drawn != sorted(SYMBOLS[kind] for kind in {source.kind for source in bus.sources}):
+        return [f"bus {bus.number}: the symbols of its sources are {drawn}"]
+    if not all(map(is_linked, symbols)):
+        return [f"bus {bus.number}: transformer and generator of a unit meet, or no wire is between them"]
+    told = [g.find(f"{SVG}title").text for g in symbols]
     due = []
     for kind in sorted({source.kind for source in bus.sources}):
         count = sum(source.kind == kind for source in bus.sources)

@@ -11,7 +11,7 @@ ELEMENTS = {"html", "head", "meta", "title", "style", "body", "header", "main", 
 DRAWN = {"svg", "g", "title", "desc", "rect", "line", "circle", "polygon", "path", "text", "tspan", "use"}
 VOID = {"meta"}
 # By the title of a table of inputs: letter and kind of its rows, and of each column the field of the row and how many make one unit.
-# A power is in MVA, or in kVA where all are below 1 MVA.
+# A power is in MVA, or in kVA where all of its column are below 1 MVA.
 POWER = "power"
 INPUTS = {
     "Buses": ("B", None, [(2, 1000), (9, 1000), (10, 1000)]),
@@ -21,6 +21,8 @@ INPUTS = {
     "Generators": ("P", "2", [(3, 1000), (4, POWER), (5, 1000), (6, 100), (7, 100)]),
     "Motors": ("P", "3", [(3, 1000), (4, POWER), (5, 10), (6, 100)]),
     "Converters": ("P", "4", [(3, 10), (4, 100)]),
+    "Power station units": ("P", "5", [(3, 1000), (4, POWER), (5, 1000), (6, 100), (7, 100), (8, 1000), (9, 1000), (10, POWER),
+                                       (11, 1000), (12, 1000)]),
 }
 VERDICTS = {"W": "within", "O": "over", "C": "close"}
 
@@ -150,10 +152,9 @@ def due_inputs(title, rows):
     letter, kind, fields = INPUTS[title]
     at = {"B": 3, "P": 1}[letter]
     chosen = [row for row in rows if row[0] == letter and kind in (None, row[at])]
-    powers = [int(row[place]) for row in chosen for place, times in fields if times is POWER]
-    unit = 1000 if max(powers, default=0) >= 1000 else 1
-    told = [tuple([row[2]] * (letter == "P") + [decimal(row[place], unit if times is POWER else times) for place, times in fields])
-            for row in chosen]
+    units = [1000 if times is POWER and any(int(row[place]) >= 1000 for row in chosen) else 1 if times is POWER else times
+             for place, times in fields]
+    told = [tuple([row[2]] * (letter == "P") + [decimal(row[place], unit) for (place, _), unit in zip(fields, units)]) for row in chosen]
     return told if letter == "B" else list(dict.fromkeys(told))
 
 

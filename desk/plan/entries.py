@@ -250,7 +250,7 @@ class Entry:
         if value is None:
             return self.mistake(key, f"{key} = {shown(written)}: {field.words} must be a number ({no_number(written)})")
         exact = value * unit.times
-        if not field.rated_at and not field.low <= exact <= field.high:
+        if not (field.rated_at or field.suits) and not field.low <= exact <= field.high:
             words = range_text(field.low, field.high, unit)
             return self.mistake(key, f"{key} = {shown(written)}: {field.words} must be {words}")
         if exact.denominator != 1 and field.whole:

@@ -7,7 +7,7 @@ from decimal import Decimal
 from fractions import Fraction
 from typing import NamedTuple
 
-from desk.records import MOST_SOURCES, ROWS, limits
+from desk.records import LOW_SIDE, MOST_SOURCES, ROWS, SOURCES, STATION_UNIT, UK, UNIT_POWER, limits
 
 TOLERANCE = "tolerance_percent"
 TOLERANCES = ROWS["S"].first[0].choices
@@ -27,13 +27,14 @@ class Field(NamedTuple):
     whole: bool = False     # counts things, so that rounding it makes no sense
     rated_at: str = ""      # rated volts: the key of the bus to whose nominal volts they belong, in place of a range
     small: str = ""         # the key that is written for less than one of the first key's unit
-    low: int = 0            # these three come from the record, in its unit, ends included
+    low: int = 0            # these four come from the record, in its unit, ends included
     high: int = 0
     below: str = ""         # the name of the field that it has to stay below
+    suits: str = ""         # rated volts: the name of the field to whose rated volts they belong, in place of a range
 
 
 class Kind(NamedTuple):
-    table: str      # the name of the kind in the records
+    table: str      # the name of the kind in a plan
     group: str      # bus, branch or source
     number: int     # the kind's number in a row
     ends: tuple     # the keys that name a bus
@@ -45,6 +46,10 @@ def volts(key, name, rated_at="", words=""):
     return Field(name, {f"{key}_kV": Unit("kV", 1000), f"{key}_V": Unit("V", 1)}, words, rated_at=rated_at)
 
 
+def power(key, name):
+    return Field(name, {f"{key}_MVA": Unit("MVA", 1000), f"{key}_kVA": Unit("kVA", 1)}, small=f"{key}_kVA")
+
+
 def plain(key, name, text, times, **more):
     return Field(name, {key: Unit(text, times)}, **more)
 
@@ -53,24 +58,29 @@ def joined(field, record):
     """A field of a plan with what the record allows in it; `count` is in no record."""
     found = [one for one in record if one.name == field.name]
     low, high = limits(found[0], record) if found else (field.low, field.high)
-    return field._replace(words=field.words or f"the {field.name}", low=low, high=high, below=found[0].below if found else "")
+    below, suits = (found[0].below, found[0].suits) if found else ("", "")
+    return field._replace(words=field.words or f"the {field.name}", low=low, high=high, below=below, suits=suits)
 
 
 ENDS = {"bus": (), "branch": ("from", "to"), "source": ("bus",)}
 
 
-def entry(letter, group, table, *fields):
-    """The entries of a kind, which become a row of this letter or a part of one."""
+def entry(letter, group, table, *fields, name=""):
+    """The entries of a kind, which become a row of this letter or a part of one; `name` is that in the records where it is another."""
     row = ROWS[letter]
-    number = next((number for number, kind in row.kinds.items() if kind.name == table), 0)
+    number = next((number for number, kind in row.kinds.items() if kind.name == (name or table)), 0)
     kind = row.kinds.get(number)
     record = row.first + kind.fields + row.last
     return Kind(table, group, number, ENDS[group], tuple(joined(field, record) for field in fields), kind.not_both_zero)
 
 
 MACHINE_VOLTS = volts("rated", "rated voltage", "bus")
-POWER = Field("rated power", {"rated_MVA": Unit("MVA", 1000), "rated_kVA": Unit("kVA", 1)}, small="rated_kVA")
+POWER = power("rated", "rated power")
 RATIO = plain("r_over_x", "ratio R/X", "", 100)
+# of a generator behind its rated power, and of a transformer behind its own, wherever they stand
+GENERATOR_FIELDS = (Field("subtransient reactance xd", {"xd_percent": Unit("%", 1000), "xd_pu": Unit("p.u.", 100_000)}), RATIO,
+                    plain("cos_phi", "power factor", "", 100))
+TRANSFORMER_IMPEDANCE = (plain("uk_percent", UK, "%", 1000), plain("uR_percent", "resistive part uR", "%", 1000))
 COUNT = plain("count", "count", "", 1, words="how many there are alike", default=1, whole=True, low=1, high=MOST_SOURCES)
 
 KINDS = {kind.table: kind for kind in (
@@ -88,17 +98,14 @@ KINDS = {kind.table: kind for kind in (
           volts("from", "rated voltage on the parent's side", "from", "the rated voltage on the side of `from`"),
           volts("to", "rated voltage on the bus's own side", "to", "the rated voltage on the side of `to`"),
           POWER,
-          plain("uk_percent", "short-circuit voltage uk", "%", 1000),
-          plain("uR_percent", "resistive part uR", "%", 1000)),
+          *TRANSFORMER_IMPEDANCE),
     entry("P", "source", "feeder",
           plain("short_circuit_MVA", "short-circuit power", "MVA", 1000),
           RATIO),
     entry("P", "source", "generator",
           MACHINE_VOLTS,
           POWER,
-          Field("subtransient reactance xd", {"xd_percent": Unit("%", 1000), "xd_pu": Unit("p.u.", 100_000)}),
-          RATIO,
-          plain("cos_phi", "power factor", "", 100),
+          *GENERATOR_FIELDS,
           COUNT),
     entry("P", "source", "motor",
           MACHINE_VOLTS,
@@ -110,6 +117,15 @@ KINDS = {kind.table: kind for kind in (
           plain("rated_A", "rated current", "A", 10),
           plain("k", "current ratio k", "", 100),
           COUNT),
+    entry("P", "source", "unit",
+          volts("rated", "generator's rated voltage"),
+          power("rated", UNIT_POWER),
+          *GENERATOR_FIELDS,
+          volts("low", LOW_SIDE),
+          volts("high", "rated voltage on the high side", "bus"),
+          power("transformer", "transformer's rated power"),
+          *TRANSFORMER_IMPEDANCE,
+          COUNT, name=SOURCES[STATION_UNIT].name),
 )}
 
 

@@ -8,6 +8,9 @@ from desk.records import MOST_BRANCHES, MOST_BUSES, MOST_SOURCES, MOST_TRANSFORM
 from .entries import did_you_mean, proposal, quoted
 from .fields import decimal_text, range_text
 
+# What may be meant where another voltage of an entry would suit the bus; other kinds have one voltage alone.
+EXCHANGED = {"transformer": "; are the two sides exchanged?", "unit": "; a unit stands at the bus on its high side"}
+
 
 class Step(NamedTuple):
     """A bus in the order of the rows. Buses here are numbers of the file's order."""
@@ -171,6 +174,8 @@ class Tree:
         for field in entry.kind.fields:
             if field.below in numbers and field.name in numbers:
                 self.check_below(entry, field)
+            if field.suits in numbers and field.name in numbers:
+                self.check_suits(entry, field)
             if field.rated_at and field.name in numbers:
                 self.check_rated(entry, field)
         if entry.kind.table == "line" and len(entry.bus) == 2 and not entry.guessed:
@@ -180,6 +185,14 @@ class Tree:
         if entry.numbers[field.name] >= entry.numbers[field.below]:
             key, other = entry.given[field.name], entry.given[field.below]
             entry.mistake(key, f"{key} = {entry.table[key]}: {field.words} must be below {other} = {entry.table[other]}")
+
+    def check_suits(self, entry, field):
+        """Rated volts that go with other rated volts of the entry."""
+        other = entry.numbers[field.suits]
+        if not fits(entry.numbers[field.name], other):
+            key, beside = entry.given[field.name], entry.given[field.suits]
+            entry.mistake(key, f"{key} = {entry.table[key]}: {field.words} must be {limits_text(other, field.units[key])} "
+                               f"{beside} = {entry.table[beside]}")
 
     def check_line(self, line):
         ends = [line.bus[key] for key in line.kind.ends]
@@ -197,10 +210,9 @@ class Tree:
             return
         key = entry.given[field.name]
         unit = field.units[key]
-        limits = range_text(Fraction(9 * nominal, 10), Fraction(11 * nominal, 10), unit)
-        others = [entry.numbers[side] for side in sides_of(entry) if side in entry.numbers and side != field.name]
-        exchanged = "; are the two sides exchanged?" if any(fits(other, nominal) for other in others) else ""
-        entry.mistake(key, f"{key} = {entry.table[key]}: {field.words} must be {limits}, 9/10 to 11/10 of the nominal voltage "
+        others = [entry.numbers[name] for name in voltages_of(entry) if name in entry.numbers and name != field.name]
+        exchanged = EXCHANGED[entry.kind.table] if any(fits(other, nominal) for other in others) else ""
+        entry.mistake(key, f"{key} = {entry.table[key]}: {field.words} must be {limits_text(nominal, unit)} the nominal voltage "
                            f"of {self.name(bus)}, {decimal_text(Fraction(nominal, unit.times))} {unit.text}{exchanged}")
 
     def check_depths(self):
@@ -237,12 +249,18 @@ def fits(rated, nominal):
     return 9 * nominal <= 10 * rated <= 11 * nominal
 
 
-def sides_of(entry):
-    return [field.name for field in entry.kind.fields if field.rated_at]
+def limits_text(volts, unit):
+    """What rated volts may be that go with other volts, in words that these follow."""
+    return f"{range_text(Fraction(9 * volts, 10), Fraction(11 * volts, 10), unit)}, 9/10 to 11/10 of"
+
+
+def voltages_of(entry):
+    """All rated voltages of an entry; of a branch they are those of its two sides."""
+    return [field.name for field in entry.kind.fields if any(unit.text == "V" for unit in field.units.values())]
 
 
 def seen_from(branch, parent):
     """A branch's numbers by the record's names, in which the first side is the parent's: `from` need not be the parent."""
-    sides = sides_of(branch)
+    sides = voltages_of(branch)
     turned = sides if branch.bus["from"] == parent else sides[::-1]
     return {**branch.numbers, **{side: branch.numbers[other] for side, other in zip(sides, turned)}}
