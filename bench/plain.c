@@ -33,8 +33,8 @@ static void read_source(const char **at, const char *end, struct study *s)
     int j = s->sources++;
     s->source[j] = (int)number(at, end);
     s->at[j] = (int)number(at, end);
-    for (int i = 0; i < FIELDS; i++)
-        s->of_source[j][i] = number(at, end);
+    for (int i = 0; i < SOURCE_FIELDS; i++) /* a row without a transformer's fields ends before them */
+        s->of_source[j][i] = i < FIELDS || (*at)[-1] == ',' ? number(at, end) : 0;
 }
 
 /* The text is taken to be in order. */
@@ -92,16 +92,31 @@ static struct point branch_impedance(const struct study *s, int b)
     return times((struct point){f[4], ux}, k / 1e5 * f[1] * f[1] / (1000 * f[2]));
 }
 
+static double sine_of(double power_factor)
+{
+    return ceil(sqrt(1e8 - 1e4 * power_factor * power_factor)) / 1e4;
+}
+
+/* A generator and its own transformer, f its fields, at a bus of these volts. */
+static struct point unit_impedance(const double *f, double volts, double c)
+{
+    double ux = floor(sqrt(f[8] * f[8] - f[9] * f[9])), t = f[6] / f[5], k = volts / (f[0] * t);
+    double x = t * t * f[2] / 1e5 * f[0] * f[0] / (1000 * f[1]);
+    struct point generator = {x * f[3] / 100, x}, transformer = times((struct point){f[9], ux}, f[6] * f[6] / (1e8 * f[7]));
+    return times(plus(generator, transformer), k * k * c / (1 + fabs(f[2] - ux) / 1e5 * sine_of(f[4])));
+}
+
 static struct point machine_impedance(const struct study *s, int j)
 {
     const double *f = s->of_source[j];
     double volts = s->volts[s->at[j]], c = factor_c(s, volts);
+    if (s->source[j] == 5)
+        return unit_impedance(f, volts, c);
     if (s->source[j] == 1)
         return split(c * volts * volts / (1000 * f[0]), f[1]);
     if (s->source[j] == 3)
         return split(10 / f[2] * f[0] * f[0] / (1000 * f[1]), f[3]);
-    double sine = ceil(sqrt(1e8 - 1e4 * f[4] * f[4])) / 1e4;
-    double k = volts / f[0] * c / (1 + f[2] / 1e5 * sine);
+    double k = volts / f[0] * c / (1 + f[2] / 1e5 * sine_of(f[4]));
     double x = k * f[2] / 1e5 * f[0] * f[0] / (1000 * f[1]);
     return (struct point){x * f[3] / 100, x};
 }
@@ -356,8 +371,9 @@ double plain_breaking(const struct study *s, int bus, const double *mu, double *
         struct point y = machines[j];
         double terminal = drive * r.ratios[b] * sqrt((y.re * y.re + y.im * y.im) * r.dividers[b]);
         double share = terminal * r.ratios[b];
-        if (s->source[j] == 2) {
-            double q = terminal * sqrt(3) * f[0] / (1000 * f[1]);
+        if (s->source[j] == 2 || s->source[j] == 5) {
+            double low = s->source[j] == 5 ? terminal * f[6] / f[5] : terminal;
+            double q = low * sqrt(3) * f[0] / (1000 * f[1]);
             shares[j] = share;
             share *= q <= 2 ? 1 : mu[q >= 10 ? 100 : (int)(10 * q)];
         }

@@ -1,7 +1,7 @@
 /* The calculation of a network in plain doubles: what crates/network calculates, without bounds, checks or proofs. */
 #include <stddef.h>
 
-enum { BUSES = 128, SOURCES = 512, FIELDS = 5, FACTORS = 101 };
+enum { BUSES = 128, SOURCES = 512, FIELDS = 5, SOURCE_FIELDS = 10, FACTORS = 101 };
 
 struct point {
     double re, im;
@@ -14,7 +14,7 @@ struct study {
     int parent[BUSES], branch[BUSES];
     double volts[BUSES], of_branch[BUSES][FIELDS], rating[BUSES], peak_rating[BUSES];
     int source[SOURCES], at[SOURCES];
-    double of_source[SOURCES][FIELDS];
+    double of_source[SOURCES][SOURCE_FIELDS];
 };
 
 /* What a walk or a sweep reads: impedance of each branch, admittance and converters' current at each bus, rated volts of each branch. */

@@ -8,7 +8,7 @@
 
 size_t study_writes(const char *text, size_t length, char *buffer, size_t room, uint32_t times);
 
-enum { RUNS = 2000, TIMES = 16, TEXT = 65537, BUSES = 128, BUS = 10, SOURCES = 512, SOURCE = 7 };
+enum { RUNS = 2000, TIMES = 16, TEXT = 65537, BUSES = 128, BUS = 10, SOURCES = 512, SOURCE = 12 };
 
 struct records {
     uint32_t tolerance, bus[BUSES][BUS], source[SOURCES][SOURCE];

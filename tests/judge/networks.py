@@ -154,7 +154,7 @@ class Draft:
         )
 
     def any_sources(self, count, kinds=(GENERATOR, MOTOR, CONVERTER), buses=None):
-        make = {GENERATOR: self.generator, MOTOR: self.motor, CONVERTER: self.converter}
+        make = {GENERATOR: self.generator, MOTOR: self.motor, CONVERTER: self.converter, UNIT: self.unit}
         for _ in range(min(count, SOURCES - self.sources)):
             bus = self.rng.choice(buses) if buses else self.any_bus()
             make[self.rng.choice(kinds)](bus)
