@@ -38,8 +38,8 @@ generatorBy tolerance Un Ur kVA xd ρ powerFactor =
     (scaled (factorC tolerance Un) (1000000000 + xd * sineOf (max powerFactor 70)) (scaled Un 1000 (scaled Ur kVA (wholePoint (xd * ρ) (xd * 100)))))
     none
 
--- A power station unit. High volts, Ur² and low² of the literal form cancel: c·Un²/(10·kVAT·(10⁹ + d·s)) times
--- kVAT/kVA·xd·(ρ + j·100)/100 + (low/Ur)²·(uR + j·ux), d = |xd − ux|. Nothing where xd or uk is past its range; a power factor as of a
+-- A power station unit. The high volts of the literal form cancel, and so do the rated volts in the generator's part:
+-- c·Un²/(10·kVAT·(10⁹ + d·s)) times kVAT/kVA·xd·(ρ + j·100)/100 + (low/Ur)²·(uR + j·ux), d = |xd − ux|. Nothing where xd or uk is past its range; a power factor as of a
 -- generator
 unfoldable pub stationUnitBy : ℕ → ℕ → ℕ → ℕ → ℕ → ℕ → ℕ → ℕ → ℕ → ℕ → ℕ → Complex
 stationUnitBy tolerance Un Ur kVA xd ρ powerFactor low kVAT uk uR =

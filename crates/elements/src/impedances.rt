@@ -110,10 +110,14 @@ pub fn station_unit(
         return nothing();
     }
     let ux = reactance(uk, ur);
-    let generator = scale(scale(of(rho, 100), xd, 100), transformer_kva, kva);
-    let transformer = scale(scale(of(ur, ux), low, rated), low, rated);
+    let generator_part = scale(scale(of(rho, 100), xd, 100), transformer_kva, kva);
+    let transformer_part = scale(scale(of(ur, ux), low, rated), low, rated);
     let z = scale(
-        scale(add(generator, transformer), volts, transformer_kva),
+        scale(
+            add(generator_part, transformer_part),
+            volts,
+            transformer_kva,
+        ),
         volts,
         10,
     );

@@ -25,7 +25,7 @@ aboveOf b = cond (eqb (b .kind) 2) (b .f1) 1
 unfoldable pub belowOf : Bus → ℕ
 belowOf b = cond (eqb (b .kind) 2) (b .f2) 1
 
--- "1/Z of each feeder, generator and motor"
+-- "1/Z of each feeder, generator and motor"; "Exact Z includes units from now on" (document 02, order 5)
 abbrev pub admittanceOf : Network → Source → Point
 admittanceOf n p = inverse (impedanceOf (n .tolerance) (busAt (n .buses) (p .bus) .volts) p)
 

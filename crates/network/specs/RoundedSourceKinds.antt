@@ -1,5 +1,5 @@
 -- What the kind of a source decides (SourceKinds), in f64 as the code calculates it: a machine's admittance, a converter's current; and by
--- which rated volts and kVA a generator's current is reckoned at the bus of its source.
+-- which volts and kVA a generator's current is reckoned at the bus of its source.
 use Prim.Native.Nat.{ℕ, _*_, min}
 use mathlib.Core.Bool.{cond}
 use Rattle.enclosure.specs.declared.Complex.{Complex}
@@ -31,9 +31,9 @@ admittanceBy tolerance Un p =
 abbrev pub suppliedBy : Source → Complex
 suppliedBy p = converterBy (p .f1) (p .f2)
 
--- A generator's rated volts and kVA as the bus of its source sees them: those of a unit are multiplied by its high and its low volts, so that
--- a current at that bus over the rated current is what it is at the terminals. A field above 1,000,000, which no accepted unit has, counts as
--- that
+-- Two numbers for a generator, rated volts and kVA, of which the ratio alone counts, so that a current at the bus of its source over the
+-- rated current that they give is what it is at the terminals: of a unit Ur·high and kVA·low. A field above 1,000,000, which no accepted
+-- unit has, counts as that
 unfoldable pub voltsSeen : Source → ℕ
 voltsSeen p = cond (isUnit p) (min (p .f1) 1000000 * min (p .high) 1000000) (p .f1)
 

@@ -11,7 +11,7 @@ pub mod SourcesChanged
 pub mod AcceptedRecords
 pub mod Reached
 pub mod ElementSizes
-pub mod UnitSizes
+pub mod StationUnitSizes
 pub mod AcceptedTree
 pub mod BusSums
 pub mod ShareFacts

@@ -91,7 +91,7 @@ pub(crate) fn source_number(closed: bool, n: usize, there: bool, b: Bus, p: Sour
     source_record_number(there, b, n, p)
 }
 
-// The study with a source more. Refused: 21 closed, 24 no room, 10 to 14 by the record.
+// The study with a source more. Refused: 21 closed, 24 no room, 10 to 14 and 32 by the record.
 pub fn add_source(s: Study, p: Source) -> Answer
     ensures number { λ r. ⌜ r .number ≡ sourceNumber (network s) p ⌝ }
     ensures kept { λ r. ⌜ ((r .number ≡ 0 → ⊥) → r .study ≡ s) ⌝ }

@@ -51,7 +51,7 @@ pub(crate) fn is_rated(p: Source) -> bool
 pub(crate) fn machine_volts(p: Source) -> u32
     ensures { λ r. ⌜ r ≡ machineVolts p ⌝ }
 {
-    if p.kind == 5 { p.high } else { p.f1 }
+    if is_unit(p) { p.high } else { p.f1 }
 }
 
 // Ground 10: source kind.
@@ -179,28 +179,29 @@ pub(crate) fn converter_current(p: Source) -> Complex
     converter(p.f1, p.f2)
 }
 
-// At most 1,000,000, which no field of an accepted unit that it is asked for is above.
+// The lesser of it and 1,000,000, above which an accepted unit has none of the fields that this is asked of.
 fn at_most_a_million(x: u32) -> u64
     ensures { λ r. ⌜ (r ≡ min x 1000000) × (r ≤ 1000000) ⌝ }
 {
     if x < 1_000_000 { x as u64 } else { 1_000_000 }
 }
 
-// The rated volts of a generator as the bus of its source sees them; those of a unit are multiplied by its high volts.
+// By these volts, over `kva_seen`, a generator's current is reckoned at the bus of its source: its rated volts, of a unit times its high
+// volts.
 pub fn volts_seen(p: Source) -> u64
     ensures { λ r. ⌜ (r ≡ voltsSeen p) × (r ≤ 2 ^ 40) ⌝ }
 {
-    if p.kind == 5 {
+    if is_unit(p) {
         return at_most_a_million(p.f1) * at_most_a_million(p.high);
     }
     p.f1 as u64
 }
 
-// Its kVA; those of a unit are multiplied by its low volts.
+// And by this power: its kVA, of a unit times its low volts.
 pub fn kva_seen(p: Source) -> u64
     ensures { λ r. ⌜ (r ≡ kvaSeen p) × (r ≤ 2 ^ 40) ⌝ }
 {
-    if p.kind == 5 {
+    if is_unit(p) {
         return at_most_a_million(p.f2) * at_most_a_million(p.low);
     }
     p.f2 as u64

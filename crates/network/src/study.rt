@@ -27,9 +27,9 @@ pub struct Bus {
     pub peak_rating: u32,
 }
 
-// A source at a bus: feeder (kind 1), generator (2), motor (3), converter (4) or power station unit (5), with five fields by its kind. The
-// transformer of a unit, whose five fields are those of its generator, has five more, which are 0 of any other kind: rated volts on its low
-// and on its high side, kVA, uk and uR.
+// A source at a bus: feeder (kind 1), generator (2), motor (3), converter (4) or power station unit (5), with five fields by its kind. Of a
+// unit these are its generator's, and five more its transformer's: rated volts on the low and on the high side, kVA, uk and uR. Of any other
+// kind the five more are 0.
 pub struct Source {
     pub kind: u32,
     pub bus: u32,

@@ -9,8 +9,9 @@ use lib.ListN.{length, getD}
 use Rattle.network.specs.Network.{Limits}
 use Rattle.reader.specs.File.{letterB, letterP, rows, Outcome, refusedAt, readIn}
 
--- the limits of the edition of document 01: "At most 64 buses, 256 sources." An edition is told by its limits alone, and reads rows as this
--- one does: of a text whose source rows have seven fields each it is the edition of document 01 itself, which knows no others
+-- the limits of the edition of document 01: "At most 64 buses, 256 sources." An edition is told by its limits alone here, and reads rows as
+-- this one does. Of a text whose source rows have seven fields each that comes to document 01's own edition, which knows no others: it
+-- accepts the same texts and refuses at the same rows, a source of kind 5 with 10 where it is 11 or 12 here
 abbrev pub firstEdition : Limits
 firstEdition = record { buses = 64; sources = 256 }
 
@@ -50,5 +51,5 @@ pub record OldEdition (L : Limits) (text : List ℕ) (o : Outcome) : Type 0 wher
   pub asBefore : readIn L text .number ≡ 0 → o ≡ readIn L text
   -- "a larger one which the new edition accepts is met by an old edition with 23 or 24 at its first surplus row"
   pub larger : o .number ≡ 0 → 0 < firstSurplus L text → readIn L text ≡ metAt L text
-  -- and no other file is accepted by the new edition alone
+  -- and no other file is accepted by the new edition and not by one of these limits
   pub other : o .number ≡ 0 → firstSurplus L text ≡ 0 → readIn L text .number ≡ 0

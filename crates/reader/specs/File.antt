@@ -156,8 +156,8 @@ sourceOf v = record {
   ur = getD v 11 0;
 }
 
--- "Row 1 is `S,tolerance`; then `B,` with ten fields or `P,` with seven, in any mixture.", or with twelve: by whether the row is the first, its
--- letter and its numbers
+-- "Row 1 is `S,tolerance`; then `B,` with ten fields or `P,` with seven, in any mixture.", or with twelve: by whether the row is the
+-- first, its letter and its numbers
 unfoldable pub recordOf : Bool → ℕ → List ℕ → Row
 recordOf true letter v = cond (eqb letter letterS && eqb (length v) 1) (Start (getD v 0 0)) Malformed
 recordOf false letter v =

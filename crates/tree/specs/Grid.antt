@@ -55,8 +55,7 @@ pub record Branch : Type 0 where
   pub above : ℕ
   pub below : ℕ
 
--- the buses 0 to count - 1; own b is the sum of 1/Z of the feeder, generators and motors at b, current b the sum of rated current·k of
--- the converters at b
+-- the buses 0 to count - 1; own b is the sum of 1/Z of the machines at b, current b the sum of rated current·k of the converters at b
 pub record Grid : Type 0 where
   pub count : ℕ
   pub branch : ℕ → Branch

@@ -43,27 +43,28 @@ coveredBuses = 128
 abbrev pub coveredSources : ℕ
 coveredSources = 512
 
--- ---- errors, in parts in 2 ^ 53. What stands at a bus: a machine's admittance has 57, a converter's current 8, and each sum adds 4
-abbrev pub machineUnits : ℕ
-machineUnits = 57
+-- ---- errors, in parts in 2 ^ 53. What stands at a bus: a machine's admittance has at most 57, a unit's, a converter's current 8, and
+-- each sum adds 4
+abbrev pub machineParts : ℕ
+machineParts = 57
 
-abbrev pub ownUnits : ℕ
-ownUnits = machineUnits + 4 * coveredSources
+abbrev pub ownParts : ℕ
+ownParts = machineParts + 4 * coveredSources
 
-abbrev pub currentUnits : ℕ
-currentUnits = 8 + 4 * coveredSources
+abbrev pub currentParts : ℕ
+currentParts = 8 + 4 * coveredSources
 
 -- what is seen in a tree of n buses, from elements of k: each step of the walk adds 46 for a branch and 4 for each bus
-abbrev pub seenUnits : ℕ → ℕ → ℕ
-seenUnits k n = k + (46 + 4 * n) * walkSteps
+abbrev pub seenParts : ℕ → ℕ → ℕ
+seenParts k n = k + (46 + 4 * n) * walkSteps
 
 -- what is carried in a tree of n buses, from currents of k: 8 for each branch of a way and 4 for each bus
-abbrev pub carriedUnits : ℕ → ℕ → ℕ
-carriedUnits k n = k + (8 * wayBranches + 4 * n)
+abbrev pub carriedParts : ℕ → ℕ → ℕ
+carriedParts k n = k + (8 * wayBranches + 4 * n)
 
 -- no error of what is seen or carried is larger
-abbrev pub mostUnits : ℕ
-mostUnits = 30000
+abbrev pub mostParts : ℕ
+mostParts = 30000
 
 -- ---- sizes. What stands at a bus: 2 ^ 100 S for each machine; 2 ^ 34 V·A, current times nominal volts, for each converter
 abbrev pub ownMost : ℕ

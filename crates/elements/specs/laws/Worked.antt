@@ -51,12 +51,12 @@ starred = record {
 
 -- "Document 000's generator unit (690 V, 950 kVA, xd 18 %, tolerance 10): near 15.63 + j101.18 Ω at 20 kV": R/X 0.15, power
 -- factor 0.9; its transformer 20,000/690 V, 1,000 kVA, uk 6 %, uR 1 %
-abbrev unit : Point
-unit = sum (times (20000 * 20000) (690 * 690) (generator 10 690 690 950 18000 15 90)) (transformer 10 690 20000 1000 6000 1000)
+abbrev pair : Point
+pair = sum (times (20000 * 20000) (690 * 690) (generator 10 690 690 950 18000 15 90)) (transformer 10 690 20000 1000 6000 1000)
 
-pub unit-near : (1563 * unit .den ≤ 100 * unit .re) × (100 * unit .re < 1564 * unit .den) × (10118 * unit .den ≤ 100 * unit .im) × (100 * unit .im < 10119 * unit .den)
+pub pair-near : (1563 * pair .den ≤ 100 * pair .re) × (100 * pair .re < 1564 * pair .den) × (10118 * pair .den ≤ 100 * pair .im) × (100 * pair .im < 10119 * pair .den)
 unfolding generator transformer factorC sineOf uxOf rootOf rootUp
-unit-near = (lit≤ tt, lit< tt, lit≤ tt, lit< tt)
+pair-near = (lit≤ tt, lit< tt, lit≤ tt, lit< tt)
 
 -- "Feeder 500,000 kVA, ρ 10, 20,000 V, alone: I between 14,433 and 14,434; peak 35,641 to 36,356." I² is P/Q, (c·Un)²/(3·(R² + X²))
 abbrev alone : Point

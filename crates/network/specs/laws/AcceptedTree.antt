@@ -18,7 +18,7 @@ use Rattle.enclosure.specs.laws.F64Range.{Factor}
 use Rattle.enclosure.specs.declared.Complex.{Complex}
 use Rattle.elements.specs.Impedance.{converter}
 use Rattle.elements.specs.laws.ImpedanceErrors.{line-near, transformer-near, feeder-near, generator-near, motor-near, unit-near, converter-near, admittance-near}
-use Rattle.tree.specs.Limits.{machineUnits}
+use Rattle.tree.specs.Limits.{machineParts}
 use Rattle.tree.specs.Grid.{joined, timesSquare, parentOf}
 use Rattle.tree.specs.laws.Walk.{to-parent, to-child}
 use Rattle.tree.specs.laws.Toward.{toward-same, depth}
@@ -36,7 +36,7 @@ use Rattle.network.specs.RoundedSourceKinds.{admittanceBy, suppliedBy}
 use Rattle.network.specs.Grid.{branchOf, aboveOf, belowOf, admittanceOf, gridOf}
 use Rattle.network.specs.Doubles.{branchBy, machineBy, branchesBy}
 use Rattle.network.specs.laws.ElementSizes.{branchMost, machineMost, line-impedance, line-least, transformer-impedance, transformer-least, transformer-least-above, Machine, feeder-machine, generator-machine, motor-machine}
-use Rattle.network.specs.laws.UnitSizes.{UnitRange, unit-machine}
+use Rattle.network.specs.laws.StationUnitSizes.{UnitRange, unit-machine}
 
 -- nominal volts
 abbrev pub voltsOf : Network → ℕ → ℕ
@@ -254,30 +254,30 @@ module _ {n : Network} (r : Rebuilt n) where
         (λ k. rw k (unit-machine (n .tolerance) _ _ _ _ _ (sourceAt (n .sources) j .f5) _ _ _ _ _ (unit-range k)))
 
     -- and its admittance near its f64
-    pub machine-near : Accurate machineUnits (admittanceOf n (sourceAt (n .sources) j)) (machineBy n (sourceAt (n .sources) j))
+    pub machine-near : Accurate machineParts (admittanceOf n (sourceAt (n .sources) j)) (machineBy n (sourceAt (n .sources) j))
     unfolding impedanceOf admittanceBy
     machine-near =
         let u = source-volts in
         let p = sourceAt (n .sources) j in
         let U = voltsOf n (p .bus) in
         let hU : Factor U = (le-trans (lit≤ tt) (u .0), omega (arith, u .1)) in
-        cases (λ x y. Accurate machineUnits (inverse x) y)
+        cases (λ x y. Accurate machineParts (inverse x) y)
         (λ k.
         let f = feeder-ranges r j l k in
         let h = admittance-near 24 _ _ (lit≤ tt) (feeder-near (n .tolerance) U (p .f1) (p .f2) (f .ratio) hU (le-trans (lit≤ tt) (f .kVA), omega (arith, f .kVA-most))) in
-        rw k (accurate-more 37 machineUnits _ _ (lit≤ tt) (h .0, h .1 .fine)))
+        rw k (accurate-more 37 machineParts _ _ (lit≤ tt) (h .0, h .1 .fine)))
         (λ k.
         let f = generator-ranges r j l k in
         let t = rated k in
         let h = admittance-near 24 _ _ (lit≤ tt) (generator-near (n .tolerance) U (p .f1) (p .f2) (p .f3) (p .f4) (p .f5) (f .xd-most) (f .ratio) (f .power-factor) hU
         (le-trans (lit≤ tt) (rated-least _ _ (u .0) (t .least)), omega (arith, rated-most (p .f1) U (u .1) (t .most))) (le-trans (lit≤ tt) (f .kVA), omega (arith, f .kVA-most))) in
-        rw k (accurate-more 37 machineUnits _ _ (lit≤ tt) (h .0, h .1 .fine)))
+        rw k (accurate-more 37 machineParts _ _ (lit≤ tt) (h .0, h .1 .fine)))
         (λ k.
         let f = motor-ranges r j l k in
         let t = rated-three k in
         let h = admittance-near 32 _ _ (lit≤ tt) (motor-near (p .f1) (p .f2) (p .f3) (p .f4) (f .ratio)
         (le-trans (lit≤ tt) (rated-least _ _ (u .0) (t .least)), omega (arith, rated-most (p .f1) U (u .1) (t .most))) (f .kVA, omega (arith, f .kVA-most)) (le-trans (lit≤ tt) (f .start), omega (arith, f .start-most))) in
-        rw k (accurate-more 45 machineUnits _ _ (lit≤ tt) (h .0, h .1 .fine)))
+        rw k (accurate-more 45 machineParts _ _ (lit≤ tt) (h .0, h .1 .fine)))
         (λ k.
         let f = unit-ranges r j l k in
         let w = unit-range k in

@@ -13,7 +13,7 @@ use Rattle.algebra.specs.Reading.{from, read, _⊹_, _⋆_}
 use Rattle.enclosure.specs.Exact.{Point, nothing, sum}
 use Rattle.elements.specs.Impedance.{converter}
 use Rattle.enclosure.specs.laws.Nearness.{inverse-proper}
-use Rattle.tree.specs.Limits.{machineUnits, ownUnits, currentUnits, coveredSources, ownMost, currentMost}
+use Rattle.tree.specs.Limits.{machineParts, ownParts, currentParts, coveredSources, ownMost, currentMost}
 use Rattle.tree.specs.laws.AdmittanceSizes.{AtMost, most-more, most-sum}
 use Rattle.tree.specs.Grid.{sumOf}
 use Rattle.tree.specs.laws.Sums.{sums}
@@ -113,14 +113,14 @@ module _ {n : Network} (r : Rebuilt n) where
 
   -- ---- the machines at bus b
   module _ (b : ℕ) where
-    own-accurate : Bounded (2 ^ 60) 1 (2 ^ 100 * length (n .sources)) (gridOf n .own b) × Accurate (machineUnits + 4 * length (n .sources)) (gridOf n .own b) (ownBy n b)
+    own-accurate : Bounded (2 ^ 60) 1 (2 ^ 100 * length (n .sources)) (gridOf n .own b) × Accurate (machineParts + 4 * length (n .sources)) (gridOf n .own b) (ownBy n b)
     own-accurate =
         let m = covered-sources in
-        sum-accurate (machineAt b) (admittanceOf n) (machineBy n) blankSource (n .sources) (2 ^ 60) 1 (2 ^ 100) machineUnits (lit< tt) (lit≤ tt) (le-trans (mul-le-mul (le-refl (2 ^ 100)) m) (lit≤ tt)) (omega arith)
+        sum-accurate (machineAt b) (admittanceOf n) (machineBy n) blankSource (n .sources) (2 ^ 60) 1 (2 ^ 100) machineParts (lit< tt) (lit≤ tt) (le-trans (mul-le-mul (le-refl (2 ^ 100)) m) (lit≤ tt)) (omega arith)
         (λ j l e. let t = counted-at isMachine b (sourceAt (n .sources) j) e in (machine-bounded r j l (t .0), machine-near r j l (t .0)))
 
-    pub own-near : Accurate ownUnits (gridOf n .own b) (ownBy n b)
-    own-near = let m = covered-sources in accurate-more (machineUnits + 4 * length (n .sources)) ownUnits _ _ (omega arith) (own-accurate .1)
+    pub own-near : Accurate ownParts (gridOf n .own b) (ownBy n b)
+    own-near = let m = covered-sources in accurate-more (machineParts + 4 * length (n .sources)) ownParts _ _ (omega arith) (own-accurate .1)
 
     pub own-admittance : Admittance (gridOf n .own b)
     own-admittance = record {
@@ -173,8 +173,8 @@ module _ {n : Network} (r : Rebuilt n) where
         sum-accurate (converterAt b) currentOf suppliedBy blankSource (n .sources) (2 ^ 20) (voltsOf n b) (2 ^ 34) 8 z (lit≤ tt) (le-trans (mul-le-mul (le-refl (2 ^ 34)) m) (lit≤ tt)) (omega arith)
         (λ j l e. (bounded-at j l e, supply-near r j l (counted-at isConverter b (sourceAt (n .sources) j) e .0)))
 
-    pub current-near : 0 < voltsOf n b → Accurate currentUnits (gridOf n .current b) (convertersBy n b)
-    current-near z = let m = covered-sources in accurate-more (8 + 4 * length (n .sources)) currentUnits _ _ (omega arith) (supply-accurate z .1)
+    pub current-near : 0 < voltsOf n b → Accurate currentParts (gridOf n .current b) (convertersBy n b)
+    current-near z = let m = covered-sources in accurate-more (8 + 4 * length (n .sources)) currentParts _ _ (omega arith) (supply-accurate z .1)
 
     pub current-counted : AtMost (voltsOf n b) (2 ^ 34 * countOf (converterAt b) (n .sources)) (gridOf n .current b)
     current-counted =

@@ -24,7 +24,7 @@ use Rattle.elements.specs.Peak.{NearConverterPeak}
 use Rattle.elements.specs.laws.Peak.{near-bound, peak-scale}
 use Rattle.elements.specs.Doubles.{converterPeakBy}
 use Rattle.elements.specs.laws.BoundsAndPeaks.{MachineFigures, machine-figures, ConverterFigures, converter-figures}
-use Rattle.tree.specs.Limits.{wayRatio, ownUnits, currentUnits, seenUnits, carriedUnits, coveredBuses, coveredSources, mostUnits, seenMost, maxBuses}
+use Rattle.tree.specs.Limits.{wayRatio, ownParts, currentParts, seenParts, carriedParts, coveredBuses, coveredSources, mostParts, seenMost, maxBuses}
 use Rattle.tree.specs.Grid.{seen, carried}
 use Rattle.tree.specs.laws.Converters.{carried-real}
 use Rattle.tree.specs.laws.Sums.{sums}
@@ -135,7 +135,7 @@ order q D l u X z h k = root-le l u (from-over (q ∷ D ∷ l ∷ u ∷ X ∷ []
 
 module _ {n : Network} (r : Rebuilt n) (source : 0 < length (n .sources)) (b : ℕ) (lb : b < length (n .buses)) where
   abbrev units : ℕ
-  units = seenUnits ownUnits (length (n .buses))
+  units = seenParts ownParts (length (n .buses))
 
   few : length (n .buses) ≤ maxBuses
   few = few-buses r
@@ -143,7 +143,7 @@ module _ {n : Network} (r : Rebuilt n) (source : 0 < length (n .sources)) (b : �
   covered : length (n .buses) ≤ coveredBuses
   covered = le-trans few (lit≤ tt)
 
-  few-units : units ≤ mostUnits
+  few-units : units ≤ mostParts
   few-units = let m = covered in omega arith
 
   some : 0 < voltsOf n b
@@ -155,8 +155,8 @@ module _ {n : Network} (r : Rebuilt n) (source : 0 < length (n .sources)) (b : �
   seen-held : Accurate units (seen (gridOf n) b b) (seenAt n b)
   seen-held =
       rw (seen-walk n few (sound r) b lb)
-      (seen-near (gridOf n) (voltsOf n) (sound r) (levels r) (plain r) covered (branchesBy n) (ownBy n) ownUnits (lit≤ tt)
-      (λ i z l. accurate-more 24 ownUnits _ _ (lit≤ tt) (near-branch r i z l)) (λ c l. own-near r c) b b lb)
+      (seen-near (gridOf n) (voltsOf n) (sound r) (levels r) (plain r) covered (branchesBy n) (ownBy n) ownParts (lit≤ tt)
+      (λ i z l. accurate-more 24 ownParts _ _ (lit≤ tt) (near-branch r i z l)) (λ c l. own-near r c) b b lb)
 
   seen-good : NearTo value (Good 200 units) parts units (seen (gridOf n) b b) (seenAt n b)
   seen-good =
@@ -190,9 +190,9 @@ module _ {n : Network} (r : Rebuilt n) (source : 0 < length (n .sources)) (b : �
   converter-part =
       let m = covered in
       let volts : (i : ℕ) → i < length (n .buses) → 0 < voltsOf n i = λ i l. le-trans (lit≤ tt) (bus-volts r i l .0) in
-      let h = carried-near (gridOf n) (voltsOf n) (sound r) (levels r) (amperes r) covered (convertersBy n) currentUnits (lit≤ tt) (λ i l. current-near r i (volts i l)) b lb in
-      let g = carried-range (gridOf n) (voltsOf n) (sound r) (levels r) (amperes r) covered (convertersBy n) currentUnits (lit≤ tt) (λ i l. current-near r i (volts i l)) b lb in
-      rw (carried-tree n few b lb) (converter-figures (carriedUnits currentUnits (length (n .buses))) _ _ (omega arith) (h .0) (h .1) (sized-more (2 ^ 200) extent _ extent-range g) converters-room)
+      let h = carried-near (gridOf n) (voltsOf n) (sound r) (levels r) (amperes r) covered (convertersBy n) currentParts (lit≤ tt) (λ i l. current-near r i (volts i l)) b lb in
+      let g = carried-range (gridOf n) (voltsOf n) (sound r) (levels r) (amperes r) covered (convertersBy n) currentParts (lit≤ tt) (λ i l. current-near r i (volts i l)) b lb in
+      rw (carried-tree n few b lb) (converter-figures (carriedParts currentParts (length (n .buses))) _ _ (omega arith) (h .0) (h .1) (sized-more (2 ^ 200) extent _ extent-range g) converters-room)
 
   seen-fraction : 0 < seen (gridOf n) b b .den
   seen-fraction = seen-held .0 .left

@@ -31,7 +31,7 @@ use Rattle.network.specs.laws.SourceKinds.{machine-cases, generator-case
 use Rattle.network.specs.laws.Ways.{way-more}
 use Rattle.network.specs.laws.AcceptedRecords.{bus-volts, bus-parent, bus-kind, bus-depth, line-volts, transformer-volts, source-kind-ok, source-bus, feeder-ranges, generator-ranges, motor-ranges, unit-ranges, unit-volts}
 use Rattle.network.specs.laws.AcceptedTree.{voltsOf, rated, rated-three, rated-high, unit-range, machine-bounded, machine-reactive}
-use Rattle.network.specs.laws.UnitSizes.{unit-square}
+use Rattle.network.specs.laws.StationUnitSizes.{unit-square}
 
 -- ---- the impedance of a machine, kind by kind: R + X is at least Un²/2 ^ 37 ohms
 -- R + X of an impedance of 10⁸ that is split is 10⁸ or more, but for what rounding f down takes

@@ -13,7 +13,7 @@ use borrow.Author.Tests.{lt-ltb}
 use Rattle.enclosure.specs.Doubles.{doubles, inverted, ratio, unity, faintest, nought}
 use Rattle.enclosure.specs.declared.Complex.{Complex}
 use Rattle.enclosure.specs.laws.RootBounds.{RootHolds}
-use Rattle.tree.specs.Limits.{maxBuses, coveredBuses, machineUnits, ownUnits}
+use Rattle.tree.specs.Limits.{maxBuses, coveredBuses, machineParts, ownParts}
 use Rattle.tree.specs.Grid.{parentOf, timesSquare}
 use Rattle.tree.specs.Shares.{ratios, shareSquare}
 use Rattle.tree.specs.Ways.{dividerBy, dividerUp, dividerDown, ratioUp, ratioDown, dividersBy, ratiosBy, driveBy, strengthBy, shareSteps, ratedSteps}
@@ -110,8 +110,8 @@ module _ {n : Network} (r : Rebuilt n) (b : ℕ) (lb : b < length (n .buses)) wh
   covered : length (n .buses) ≤ coveredBuses
   covered = le-trans (few-buses r) (lit≤ tt)
 
-  branches-near : (i : ℕ) → 0 < i → i < length (n .buses) → Accurate ownUnits (gridOf n .branch i .z) (branchesBy n i)
-  branches-near i z l = accurate-more 24 ownUnits _ _ (lit≤ tt) (near-branch r i z l)
+  branches-near : (i : ℕ) → 0 < i → i < length (n .buses) → Accurate ownParts (gridOf n .branch i .z) (branchesBy n i)
+  branches-near i z l = accurate-more 24 ownParts _ _ (lit≤ tt) (near-branch r i z l)
 
   crossed : Crossed (gridOf n) (voltsOf n) (λ i. ifTransformer (busAt (n .buses) i)) (transformersOf (n .buses))
   crossed = record { above = ratio-above r; below = ratio-below r; counts = transformers-more r }
@@ -140,8 +140,8 @@ module _ {n : Network} (r : Rebuilt n) (b : ℕ) (lb : b < length (n .buses)) wh
         let h = machine-near r j l m in
         let lj = source-bus r j l in
         rw (ways-ratios r b lb (sourceAt (n .sources) j .bus) lj, ways-dividers r b lb (sourceAt (n .sources) j .bus) lj)
-        (share-bounds (gridOf n) (voltsOf n) (sound r) (levels r) (plain r) covered (branchesBy n) (ownBy n) ownUnits (lit≤ tt) branches-near (λ c k. own-near r c)
-        (driving n b) (driving-some r b lb) (driving-square r b lb) machineUnits _ _ (lit≤ tt) (h .0) (h .1) (machine-some r j l m) (machine-least r j l m, machine-most r j l m) b _ lb lj (own-reactive r j l m) small)
+        (share-bounds (gridOf n) (voltsOf n) (sound r) (levels r) (plain r) covered (branchesBy n) (ownBy n) ownParts (lit≤ tt) branches-near (λ c k. own-near r c)
+        (driving n b) (driving-some r b lb) (driving-square r b lb) machineParts _ _ (lit≤ tt) (h .0) (h .1) (machine-some r j l m) (machine-least r j l m, machine-most r j l m) b _ lb lj (own-reactive r j l m) small)
 
     pub machine-share-proper : 0 < shareSquare (gridOf n) (driving n b) (admittanceOf n (sourceAt (n .sources) j)) b (sourceAt (n .sources) j .bus) .under
     machine-share-proper = share-proper (gridOf n) (sound r .tree) (sound-proper (gridOf n) (sound r) (plain r)) (driving n b) _ b _ (machine-proper r j l m) lb (source-bus r j l) (own-reactive r j l m)
@@ -155,8 +155,8 @@ module _ {n : Network} (r : Rebuilt n) (b : ℕ) (lb : b < length (n .buses)) wh
         let h = machine-near r j l m in
         let lj = source-bus r j l in
         rw (ways-ratios r b lb (sourceAt (n .sources) j .bus) lj, ways-dividers r b lb (sourceAt (n .sources) j .bus) lj)
-        (share-few (gridOf n) (voltsOf n) (sound r) (levels r) (plain r) covered (branchesBy n) (ownBy n) ownUnits (lit≤ tt) branches-near (λ c k. own-near r c)
-        (driving n b) (driving-some r b lb) (driving-square r b lb) machineUnits _ _ (lit≤ tt) (h .0) (h .1) (machine-some r j l m) (machine-least r j l m, machine-most r j l m) b _ lb lj (own-reactive r j l m) small)
+        (share-few (gridOf n) (voltsOf n) (sound r) (levels r) (plain r) covered (branchesBy n) (ownBy n) ownParts (lit≤ tt) branches-near (λ c k. own-near r c)
+        (driving n b) (driving-some r b lb) (driving-square r b lb) machineParts _ _ (lit≤ tt) (h .0) (h .1) (machine-some r j l m) (machine-least r j l m, machine-most r j l m) b _ lb lj (own-reactive r j l m) small)
 
   module _ (j : ℕ) (l : j < length (n .sources)) (g : hasGenerator (sourceAt (n .sources) j) ≡ true) where
     machine : isMachine (sourceAt (n .sources) j) ≡ true
@@ -185,8 +185,8 @@ module _ {n : Network} (r : Rebuilt n) (b : ℕ) (lb : b < length (n .buses)) wh
         let h = machine-near r j l machine in
         let lj = source-bus r j l in
         rw (ways-ratios r b lb (sourceAt (n .sources) j .bus) lj, ways-dividers r b lb (sourceAt (n .sources) j .bus) lj)
-        (terminal-bounds (gridOf n) (voltsOf n) (sound r) (levels r) (plain r) covered (branchesBy n) (ownBy n) ownUnits (lit≤ tt) branches-near (λ c k. own-near r c)
-        (driving n b) (driving-some r b lb) (driving-square r b lb) machineUnits _ _ (lit≤ tt) (h .0) (h .1) (machine-some r j l machine) (machine-least r j l machine, machine-most r j l machine) b _ lb lj (own-reactive r j l machine)
+        (terminal-bounds (gridOf n) (voltsOf n) (sound r) (levels r) (plain r) covered (branchesBy n) (ownBy n) ownParts (lit≤ tt) branches-near (λ c k. own-near r c)
+        (driving n b) (driving-some r b lb) (driving-square r b lb) machineParts _ _ (lit≤ tt) (h .0) (h .1) (machine-some r j l machine) (machine-least r j l machine, machine-most r j l machine) b _ lb lj (own-reactive r j l machine)
         volts kva (rating .volts-some) (rating .volts-few) (rating .kva-some) (rating .kva-few) small-over)
 
     pub generator-rated-proper : 0 < ratedSquare (gridOf n) (driving n b) (admittanceOf n (sourceAt (n .sources) j)) b (sourceAt (n .sources) j .bus) volts kva .under

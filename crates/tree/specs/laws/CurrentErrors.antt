@@ -16,7 +16,7 @@ use Rattle.enclosure.specs.Doubles.{doubles}
 use Rattle.enclosure.specs.laws.F64Errors.{value, size, Fine}
 use Rattle.enclosure.specs.laws.F64Range.{Good, Factor, f64-rules}
 use Rattle.enclosure.specs.declared.Complex.{Complex}
-use Rattle.tree.specs.Limits.{maxBranches, wayBranches, wayRatio, carriedUnits, coveredBuses, mostUnits, currentMost}
+use Rattle.tree.specs.Limits.{maxBranches, wayBranches, wayRatio, carriedParts, coveredBuses, mostParts, currentMost}
 use Rattle.tree.specs.laws.Toward.{depth}
 use Rattle.tree.specs.Grid.{Grid, parentOf, upward, downward, carried}
 use Rattle.tree.specs.laws.AdmittanceSizes.{Low, low-more, low-sum}
@@ -204,7 +204,7 @@ module _ (G : Grid) (U : ℕ → ℕ) (sound : Sound G) (levels : Levels G U) wh
           held = step-scale k d (parentOf G b) _ _ x y l m (v .0) (v .1) h;
         }
 
-  module _ (amperes : CurrentBounds G U) (few : G .count ≤ coveredBuses) (current′ : ℕ → Complex) (kₑ : ℕ) (l : kₑ ≤ mostUnits)
+  module _ (amperes : CurrentBounds G U) (few : G .count ≤ coveredBuses) (current′ : ℕ → Complex) (kₑ : ℕ) (l : kₑ ≤ mostParts)
       (near-current : (i : ℕ) → i < G .count → Near parts kₑ (G .current i) (value (current′ i)) × Fine (current′ i)) where
     all-small : (n : ℕ) → n ≤ G .count → sums (λ i. currentMost) n ≤ 2 ^ 64
     all-small n m = rw (sums-most currentMost n) (le-trans (mul-le-mul (le-refl currentMost) (le-trans m few)) (lit≤ tt))
@@ -260,12 +260,12 @@ module _ (G : Grid) (U : ℕ → ℕ) (sound : Sound G) (levels : Levels G U) wh
 
     -- THE CONVERTERS' PART IN F64 IS NEAR THE EXACT ONE: kₑ parts in 2 ^ 53 for a bus's current, 8 for each branch of two ways and 4 for each bus
     pub carried-near : (b : ℕ) → b < G .count
-        → Near parts (carriedUnits kₑ (G .count)) (carried G b) (value (carriedBy doubles current′ G b)) × Fine (carriedBy doubles current′ G b)
+        → Near parts (carriedParts kₑ (G .count)) (carried G b) (value (carriedBy doubles current′ G b)) × Fine (carriedBy doubles current′ G b)
     carried-near b lb =
         let v : (i : ℕ) → 0 < i → i < G .count → (0 < G .branch i .above) × (0 < G .branch i .below) = λ i z m. (sound .volts i z m .0 .0, sound .volts i z m .1 .0) in
-        let h = accurate-more _ (carriedUnits kₑ (G .count)) _ _ (omega arith) (step-carried b lb .held) in
+        let h = accurate-more _ (carriedParts kₑ (G .count)) _ _ (omega arith) (step-carried b lb .held) in
         let e = carried-root G (sound .tree) v (amperes .proper) b lb in
-        (near-same parts (carriedUnits kₑ (G .count)) _ (carried G b) _ (carried-proper G (sound .tree) v (amperes .proper) b lb) (record { re = sym (e .re); im = sym (e .im) }) (h .0), h .1)
+        (near-same parts (carriedParts kₑ (G .count)) _ (carried G b) _ (carried-proper G (sound .tree) v (amperes .proper) b lb) (record { re = sym (e .re); im = sym (e .im) }) (h .0), h .1)
 
     -- and of a size that can be calculated with
     pub carried-range : (b : ℕ) → b < G .count → Sized (2 ^ 200) (size (carriedBy doubles current′ G b))

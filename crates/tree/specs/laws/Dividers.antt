@@ -23,7 +23,7 @@ use Rattle.enclosure.specs.laws.F64Errors.{value, size, Fine, near-square}
 use Rattle.enclosure.specs.laws.F64Range.{Good, Factor, f64-rules, near-size}
 use Rattle.enclosure.specs.Fraction.{whole, product, quotient, sizeSquare}
 use Rattle.enclosure.specs.laws.Scalar.{grain, About, about-square, about-div, about-unity, Reached, reached-more, reached-start, reached-step}
-use Rattle.tree.specs.Limits.{walkSteps, wayBranches, coveredBuses, mostUnits, seenUnits}
+use Rattle.tree.specs.Limits.{walkSteps, wayBranches, coveredBuses, mostParts, seenParts}
 use Rattle.tree.specs.Grid.{joined, Grid, parentOf, timesSquare, seenBy, seen}
 use Rattle.tree.specs.Ways.{overWay, dividerBy, dividerUp, dividerDown, dividersBy}
 use Rattle.tree.specs.laws.Walk.{to-parent, to-child}
@@ -185,7 +185,7 @@ by-one s m h = omega arith
 branch-ranged : (a b d : ℕ) → 0 < a + b → d ≤ 2 ^ 100 → d ≤ 2 ^ 199 * (a + b)
 branch-ranged a b d z h = from (a ∷ b ∷ d ∷ []) (h ⊹ 2 ^ 199 ⋆ z) (search read depth 40 fits 20000) refl
 
-module _ (G : Grid) (U : ℕ → ℕ) (sound : Sound G) (levels : Levels G U) (plain : Plain G) (few : G .count ≤ coveredBuses) (z′ own′ : ℕ → Complex) (kₑ : ℕ) (l : kₑ ≤ mostUnits)
+module _ (G : Grid) (U : ℕ → ℕ) (sound : Sound G) (levels : Levels G U) (plain : Plain G) (few : G .count ≤ coveredBuses) (z′ own′ : ℕ → Complex) (kₑ : ℕ) (l : kₑ ≤ mostParts)
     (near-z : (i : ℕ) → 0 < i → i < G .count → Near parts kₑ (G .branch i .z) (value (z′ i)) × Fine (z′ i))
     (near-own : (b : ℕ) → b < G .count → Near parts kₑ (G .own b) (value (own′ b)) × Fine (own′ b)) where
   -- what is seen in f64, and its error
@@ -193,7 +193,7 @@ module _ (G : Grid) (U : ℕ → ℕ) (sound : Sound G) (levels : Levels G U) (p
   s′ = seenBy doubles z′ own′ G walkSteps
 
   abbrev cost : ℕ
-  cost = seenUnits kₑ (G .count)
+  cost = seenParts kₑ (G .count)
 
   R : ℕ → Point → Complex → Type 0
   R = NearTo value (Good 200 cost) parts

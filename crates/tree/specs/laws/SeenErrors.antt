@@ -16,7 +16,7 @@ use Rattle.enclosure.specs.Doubles.{doubles}
 use Rattle.enclosure.specs.laws.F64Errors.{value, Fine}
 use Rattle.enclosure.specs.laws.F64Range.{Good, Factor, f64-rules}
 use Rattle.enclosure.specs.declared.Complex.{Complex}
-use Rattle.tree.specs.Limits.{walkSteps, seenUnits, coveredBuses, mostUnits, ownMost}
+use Rattle.tree.specs.Limits.{walkSteps, seenParts, coveredBuses, mostParts, ownMost}
 use Rattle.tree.specs.Grid.{joined, Grid, parentOf, timesSquare, through, admittances, seenBy, seen}
 use Rattle.tree.specs.laws.Walk.{to-parent, to-child}
 use Rattle.tree.specs.laws.Grid.{through-cases, seen-steps}
@@ -156,7 +156,7 @@ module _ (G : Grid) (U : ℕ → ℕ) (levels : Levels G U) (P S ζ : ℕ) (r : 
           (inr (longest P (2 ^ 199) _ _ (one-of P S (G .count) (2 ^ 199) (omega arith) tall) (r .long i p li)))
           (most-under 1 (ζ * (U i * U i)) (2 ^ 199) _ (omega arith) (le-trans (mul-le-mul (far-least ζ walkSteps) (mul-le-mul v v)) wide) (r .short i p li))
 
-      seen-accurate : (b w : ℕ) → b < G .count → seenUnits kₑ (G .count) ≤ 1000000 → Accurate (seenUnits kₑ (G .count)) (seen G b w) (seenBy doubles z′ own′ G walkSteps b w)
+      seen-accurate : (b w : ℕ) → b < G .count → seenParts kₑ (G .count) ≤ 1000000 → Accurate (seenParts kₑ (G .count)) (seen G b w) (seenBy doubles z′ own′ G walkSteps b w)
       seen-accurate b w lb l =
           rw (seen-steps G (sound .tree) (sound .shallow) b w lb)
           (walk-inside (admittances exact (λ j. G .branch j .z) (G .own) G) (admittances doubles z′ own′ G) (parentOf G) (G .count) In Accurate walkSteps 1000000 kₑ 4 46 S P
@@ -227,14 +227,14 @@ module _ (G : Grid) (U : ℕ → ℕ) (sound : Sound G) (levels : Levels G U) (p
   pub seen-high : (b w : ℕ) → b < G .count → seen G b w .re + seen G b w .im ≤ 2 ^ 199 * seen G b w .den
   seen-high b w lb = in-high G U levels (2 ^ 180) ownMost (2 ^ 60) ranged wide (tall (G .count) few) walkSteps b (seen G b w) (in-seen G U levels (2 ^ 180) ownMost (2 ^ 60) ranged sound b w lb)
 
-  room : (k n : ℕ) → k ≤ mostUnits → n ≤ coveredBuses → seenUnits k n ≤ 1000000
+  room : (k n : ℕ) → k ≤ mostParts → n ≤ coveredBuses → seenParts k n ≤ 1000000
   room k n a b = omega arith
 
-  module _ (z′ own′ : ℕ → Complex) (kₑ : ℕ) (l : kₑ ≤ mostUnits)
+  module _ (z′ own′ : ℕ → Complex) (kₑ : ℕ) (l : kₑ ≤ mostParts)
       (near-z : (i : ℕ) → 0 < i → i < G .count → Near parts kₑ (G .branch i .z) (value (z′ i)) × Fine (z′ i))
       (near-own : (b : ℕ) → b < G .count → Near parts kₑ (G .own b) (value (own′ b)) × Fine (own′ b)) where
     -- THE WALK IN F64 IS NEAR THE EXACT ONE: kₑ parts in 2 ^ 53 for an element, 46 for a branch and 4 for each bus at each step
     pub seen-near : (b w : ℕ) → b < G .count
-        → Near parts (seenUnits kₑ (G .count)) (seen G b w) (value (seenBy doubles z′ own′ G walkSteps b w)) × Fine (seenBy doubles z′ own′ G walkSteps b w)
+        → Near parts (seenParts kₑ (G .count)) (seen G b w) (value (seenBy doubles z′ own′ G walkSteps b w)) × Fine (seenBy doubles z′ own′ G walkSteps b w)
     seen-near b w lb =
         seen-accurate G U levels (2 ^ 180) ownMost (2 ^ 60) ranged wide (tall (G .count) few) sound z′ own′ kₑ near-z near-own b w lb (room kₑ (G .count) l few)

@@ -24,7 +24,7 @@ use Rattle.enclosure.specs.laws.StepErrors.{parts}
 use Rattle.enclosure.specs.laws.F64Errors.{value, size, Fine}
 use Rattle.enclosure.specs.laws.Scalar.{About, Reached, Span, span-product, about-span, about-times, about-floored, about-more, about-ratio, about-square, about-squared, about-unity}
 use Rattle.enclosure.specs.laws.RootBounds.{RootHolds, reached-bounds}
-use Rattle.tree.specs.Limits.{wayBranches, coveredBuses, mostUnits}
+use Rattle.tree.specs.Limits.{wayBranches, coveredBuses, mostParts}
 use Rattle.tree.specs.Grid.{Grid, parentOf, Treelike}
 use Rattle.tree.specs.Shares.{ratios, shareSquare, terminalSquare}
 use Rattle.tree.specs.Ways.{overWay, ratioUp, ratioDown, ratiosBy, dividersBy, driveBy, strengthBy, shareSteps, ratedSteps}
@@ -248,7 +248,7 @@ pub rated-proper : (G : Grid) → Treelike G → Proper G → (v : ℕ) (y : Poi
     → 0 < ratedSquare G v y b j volts kva .under
 rated-proper G tree proper v y b j volts kva z lb lj m k = mul-pos (terminal-proper G tree proper v y b j z lb lj m) (mul-pos (lit≤ tt) (mul-pos k k))
 
-module _ (G : Grid) (U : ℕ → ℕ) (sound : Sound G) (levels : Levels G U) (plain : Plain G) (few : G .count ≤ coveredBuses) (z′ own′ : ℕ → Complex) (kₑ : ℕ) (l : kₑ ≤ mostUnits)
+module _ (G : Grid) (U : ℕ → ℕ) (sound : Sound G) (levels : Levels G U) (plain : Plain G) (few : G .count ≤ coveredBuses) (z′ own′ : ℕ → Complex) (kₑ : ℕ) (l : kₑ ≤ mostParts)
     (near-z : (i : ℕ) → 0 < i → i < G .count → Near parts kₑ (G .branch i .z) (value (z′ i)) × Fine (z′ i))
     (near-own : (b : ℕ) → b < G .count → Near parts kₑ (G .own b) (value (own′ b)) × Fine (own′ b)) where
   module _ (v : ℕ) (v₀ : 0 < v) (v₁ : v * v ≤ 2 ^ 53) (k : ℕ) (y : Point) (y′ : Complex) (k₁ : k ≤ 1000000) (near-y : Near parts k y (value y′)) (fine-y : Fine y′)

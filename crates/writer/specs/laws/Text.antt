@@ -20,7 +20,7 @@ source-same p = refl
 counts : (b : Bus) (p : Source) → (length (busNumbers b) ≡ busFields) × (length (sourceNumbers p) ≡ sourceFields)
 counts b p = (refl, refl)
 
--- tolerance 6, a bus at 400 V and its feeder of 5,000 kVA: S,6 B,0,400,0,0,0,0,0,0,1,2 P,1,0,5000,10,0,0,0, each with CRLF
+-- tolerance 6, a bus at 400 V and its feeder of 5,000 kVA: S,6 B,0,400,0,0,0,0,0,0,1,2 P,1,0,5000,10,0,0,0,0,0,0,0,0, each with CRLF
 example : Network
 example =
     closedAs true
