@@ -91,7 +91,7 @@ busBy n v = ground (busNumber n (busOf v)) (afterBus n (busOf v))
 abbrev pub busEffect : Network → List ℕ → Effect
 busEffect n rest = numbered busCountOk (busBy n) n (collected (fields rest))
 
--- "`source,` and seven or twelve numbers"
+-- "`source,` and seven numbers or twelve"
 abbrev pub sourceBy : Network → List ℕ → Effect
 sourceBy n v = ground (sourceNumber n (sourceOf v)) (afterSource n (sourceOf v))
 
