@@ -108,9 +108,10 @@ pub(crate) fn part_by(delay: u32, k: f64, ratio: f64, divider: f64, p: Source) -
             steps: 0,
         };
     }
+    let steps = share_steps(k, ratio, divider) + 1;
     Part {
         lower: 0.0,
         upper: 0.0,
-        steps: share_steps(k, ratio, divider) + 1,
+        steps,
     }
 }

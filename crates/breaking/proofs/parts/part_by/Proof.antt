@@ -24,8 +24,8 @@ returns-2 c = rw (← c .before .before .before .has-generator .ensures, c .befo
 share-steps-requires : tie.Need-share-steps-requires
 share-steps-requires c κs = search needs
 
-add-t9 : tie.Need-add-t9
-add-t9 c = search needs
+add-steps : tie.Need-add-steps
+add-steps c = search needs
 
 returns-3 : tie.Need-returns-3
 unfolding partBy
@@ -34,4 +34,4 @@ returns-3 c = rw (← c .before .before .before .before .has-generator .ensures,
 pub part-by-spec : {M : Type 1} → statement M
 part-by-spec =
     tie.close
-    (tie.spec has-generator-requires generator-part-requires returns is-converter-requires returns-2 share-steps-requires add-t9 returns-3)
+    (tie.spec has-generator-requires generator-part-requires returns is-converter-requires returns-2 share-steps-requires add-steps returns-3)
