@@ -51,8 +51,8 @@ fn number_after(found: u32, delay: u32, sources: usize, room: usize) -> u32
 }
 
 // The breaking figure of a bus, and in the table two numbers a source in source order: whole bounds of the share of a generator or a unit, 0
-// and 0 of any other source. Numbers beyond these are kept. Refused: 22 not closed, 15 no such bus, 31 no such delay, 30 the table is too short; then
-// the figure is 0 and the table as it was. The clause `promise` is order 3 whole, for whatever calls made the study.
+// and 0 of any other source. Numbers beyond these are kept. Refused: 22 not closed, 15 no such bus, 31 no such delay, 30 the table is too
+// short; then the figure is 0 and the table as it was. The clause `promise` is order 3 whole, for whatever calls made the study.
 pub fn breaking(s: Study, bus: u32, delay: u32, table: &mut [f64]) -> BreakingAnswer
     ensures number { λ r. ⌜ r .number ≡ breakingNumber (network s) bus delay (length (now (table .entry))) ⌝ }
     ensures figure { λ r. ⌜ r .figure .0 ≡ figureAfter (r .number) (figureAt (network s) bus delay) ⌝ }

@@ -112,15 +112,8 @@ pub fn station_unit(
     let ux = reactance(uk, ur);
     let generator_part = scale(scale(of(rho, 100), xd, 100), transformer_kva, kva);
     let transformer_part = scale(scale(of(ur, ux), low, rated), low, rated);
-    let z = scale(
-        scale(
-            add(generator_part, transformer_part),
-            volts,
-            transformer_kva,
-        ),
-        volts,
-        10,
-    );
+    let parts = add(generator_part, transformer_part);
+    let z = scale(scale(parts, volts, transformer_kva), volts, 10);
     scale(
         z,
         voltage_factor(tolerance, volts),

@@ -104,6 +104,7 @@ unitImpedance tolerance Un p =
     impedance.stationUnit tolerance Un (p .f1) (p .f2) (p .f3) (p .f4) (p .f5) (p .low) (p .high) (p .«transformer_kva») (p .uk) (p .ur)
 
 -- ---- of a source of any kind
+-- the ranges of the fields that it has
 unfoldable pub rangesOk : Source → Bool
 rangesOk p = byKind p (all (feederTests p)) (all (generatorTests p)) (all (motorTests p)) (all (unitTests p)) (all (converterTests p))
 
