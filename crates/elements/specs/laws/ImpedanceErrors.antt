@@ -18,7 +18,7 @@ use Rattle.enclosure.specs.laws.ElementStart.{whole-near}
 use Rattle.elements.specs.Factors.{factorC, sineOf, uxOf, splitOf}
 use Rattle.elements.specs.laws.Factors.{ux-most}
 use Rattle.elements.specs.laws.FactorSizes.{split-re-most, split-im-most, factorC-sized, saturation-most, unit-saturation-most}
-use Rattle.elements.specs.Impedance.{line, transformer, split, feeder, motor, generator, apart, correctS, plainGenerator, plainTransformer, stationUnit, converter}
+use Rattle.elements.specs.Impedance.{line, transformer, split, feeder, motor, generator, apart, correctS, plainGenerator, stationUnit, converter}
 use Rattle.elements.specs.Doubles.{lineBy, transformerBy, splitBy, feederBy, motorBy, generatorBy, stationUnitBy, converterBy}
 
 -- z is within k parts in 2 ^ 53 of the exact x, and of a size that calculation can go on from
