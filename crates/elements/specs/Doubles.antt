@@ -39,8 +39,8 @@ generatorBy tolerance Un Ur kVA xd ρ powerFactor =
     none
 
 -- A power station unit. The high volts of the literal form cancel, and so do the rated volts in the generator's part:
--- c·Un²/(10·kVAT·(10⁹ + d·s)) times kVAT/kVA·xd·(ρ + j·100)/100 + (low/Ur)²·(uR + j·ux), d = |xd − ux|. Nothing where xd or uk is past its range; a power factor as of a
--- generator
+-- c·Un²/(10·kVAT·(10⁹ + d·s)) times kVAT/kVA·xd·(ρ + j·100)/100 + (low/Ur)²·(uR + j·ux), d = |xd − ux|. Nothing where xd or uk is past
+-- its range; a power factor as of a generator
 unfoldable pub stationUnitBy : ℕ → ℕ → ℕ → ℕ → ℕ → ℕ → ℕ → ℕ → ℕ → ℕ → ℕ → Complex
 stationUnitBy tolerance Un Ur kVA xd ρ powerFactor low kVAT uk uR =
     cond (leb xd 100000 && leb uk 30000)
