@@ -14,11 +14,11 @@ use Rattle.enclosure.specs.Exact.{ofNat}
 unfoldable pub lineBy : ℕ → ℕ → ℕ → ℕ → Complex
 lineBy r x metres circuits = scaled 1 1000000 (scaled metres circuits (wholePoint r x))
 
--- nothing where uk is past document 01's range
+-- nothing where uk is past document 01's range, or uR above uk
 unfoldable pub transformerBy : ℕ → ℕ → ℕ → ℕ → ℕ → ℕ → Complex
 transformerBy tolerance Ulower UrOwn kVA uk uR =
-    cond (leb uk 30000)
-    (scaled (9500 * factorC tolerance Ulower) (1000000 + 6 * uxOf uk uR) (scaled UrOwn 100000000 (scaled UrOwn kVA (wholePoint uR (uxOf uk uR)))))
+    cond (leb uk 30000 && leb uR uk)
+    (scaled (9500 * factorC tolerance Ulower) (1000000000 + 6 * uxOf uk uR) (scaled UrOwn 100000000 (scaled UrOwn kVA (wholePoint (1000 * uR) (uxOf uk uR)))))
     none
 
 -- R/Z and X/Z, in 10⁸; nothing where ρ is past document 01's range
@@ -39,14 +39,14 @@ generatorBy tolerance Un Ur kVA xd ρ powerFactor =
     none
 
 -- A power station unit. The high volts of the literal form cancel, and so do the rated volts in the generator's part:
--- c·Un²/(10·kVAT·(10⁹ + d·s)) times kVAT/kVA·xd·(ρ + j·100)/100 + (low/Ur)²·(uR + j·ux), d = |xd − ux|. Nothing where xd or uk is past
--- its range; a power factor as of a generator
+-- c·Un²/(10·kVAT·(10¹² + d·s)) times kVAT/kVA·10·xd·(ρ + j·100) + (low/Ur)²·(1,000·uR + j·w), d = |1,000·xd − w|. Nothing where xd or uk is
+-- past its range, or uR above uk; a power factor as of a generator
 unfoldable pub stationUnitBy : ℕ → ℕ → ℕ → ℕ → ℕ → ℕ → ℕ → ℕ → ℕ → ℕ → ℕ → Complex
 stationUnitBy tolerance Un Ur kVA xd ρ powerFactor low kVAT uk uR =
-    cond (leb xd 100000 && leb uk 30000)
-    (scaled (factorC tolerance Un) (1000000000 + apart xd (uxOf uk uR) * sineOf (max powerFactor 70))
+    cond (leb xd 100000 && (leb uk 30000 && leb uR uk))
+    (scaled (factorC tolerance Un) (1000000000000 + apart (1000 * xd) (uxOf uk uR) * sineOf (max powerFactor 70))
     (scaled Un 10 (scaled Un kVAT
-    (added (scaled kVAT kVA (scaled xd 100 (wholePoint ρ 100))) (scaled low Ur (scaled low Ur (wholePoint uR (uxOf uk uR))))))))
+    (added (scaled kVAT kVA (scaled (10 * xd) 1 (wholePoint ρ 100))) (scaled low Ur (scaled low Ur (wholePoint (1000 * uR) (uxOf uk uR))))))))
     none
 
 unfoldable pub converterBy : ℕ → ℕ → Complex

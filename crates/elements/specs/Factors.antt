@@ -1,5 +1,5 @@
--- Document 01, "Factors": c, the sine, ux, f, T and the peak table's K, defined on all numbers. That each is the least or the greatest
--- that document 01 says is proved in laws/Factors and laws/PeakTable.
+-- Document 01, "Factors": c, the sine, f, T and the peak table's K, and ux by document 02, order 6; defined on all numbers. That each is the
+-- least or the greatest that the documents say is proved in laws/Factors and laws/PeakTable.
 use Prim.Native.Nat.{ℕ, _+_, _-_, _*_, _/_, zero, suc, _^_}
 use mathlib.Core.Bool.{cond}
 use lib.Dec.{leb, eqb}
@@ -14,9 +14,9 @@ factorC tolerance volts = cond (leb volts 1000) (cond (eqb tolerance 6) 105 110)
 unfoldable pub sineOf : ℕ → ℕ
 sineOf p = rootUp (100000000 - 10000 * (p * p))
 
--- "ux: the greatest whole number with ux² ≤ uk² − uR²."
+-- "ux is now in millionths of a percent: the greatest w with w² ≤ (uk² − uR²)·10⁶", where uk and uR are in thousandths of a percent
 unfoldable pub uxOf : ℕ → ℕ → ℕ
-uxOf uk uR = rootOf (uk * uk - uR * uR)
+uxOf uk uR = rootOf ((uk * uk - uR * uR) * 1000000)
 
 -- "f: the greatest whole number with f²·(10,000 + ρ²) ≤ 10¹⁶; X = Z·f/10⁶, R = X·ρ/100."
 unfoldable pub splitOf : ℕ → ℕ

@@ -1,4 +1,4 @@
--- Document 01, "Element impedances in ohms", and document 02, order 5: each as an exact point, drawn from the record's fields and nominal
+-- Document 01, "Element impedances in ohms", and document 02, orders 5 and 6: each as an exact point, drawn from the record's fields and nominal
 -- volts alone and defined on all numbers. Assumes nothing.
 use Prim.Native.Nat.{ℕ, _+_, _-_, _*_}
 use Rattle.enclosure.specs.Exact.{Point, sum, times}
@@ -8,14 +8,18 @@ use Rattle.elements.specs.Factors.{factorC, sineOf, uxOf, splitOf}
 unfoldable pub line : ℕ → ℕ → ℕ → ℕ → Point
 line r x metres circuits = times metres (circuits * 1000000) (record { re = r; im = x; den = 1 })
 
--- "K_T = 0.95·c/(1 + 0.6·ux/100,000)", with c in hundredths:
--- 0.95·(c/100) = 95·c/10⁴ and 1 + 0.6·ux/10⁵ = (10⁶ + 6·ux)/10⁶, so K_T = 95·c·10⁶/(10⁴·(10⁶ + 6·ux)) = 9,500·c/(10⁶ + 6·ux)
+-- "K_T = 0.95·c/(1 + 0.6·ux/100,000)" and "w/10⁸ stands where ux/100,000 stood", with c in hundredths:
+-- 0.95·(c/100) = 95·c/10⁴ and 1 + 0.6·w/10⁸ = (10⁹ + 6·w)/10⁹, so K_T = 95·c·10⁹/(10⁴·(10⁹ + 6·w)) = 9,500,000·c/(10⁹ + 6·w)
 abbrev pub correctT : ℕ → ℕ → Point → Point
-correctT c ux z = times (9500 * c) (1000000 + 6 * ux) z
+correctT c w z = times (9500000 * c) (1000000000 + 6 * w) z
+
+-- uR/100,000 + j·w/10⁸, over 10⁸
+abbrev pub shortCircuit : ℕ → ℕ → Point
+shortCircuit uR w = record { re = 1000 * uR; im = w; den = 100000000 }
 
 -- "(uR + j·ux)/100,000·UrOwn²/(1,000·kVA)": a transformer on the side of the rated volts Ur, without K_T
 abbrev pub plainTransformer : ℕ → ℕ → ℕ → ℕ → Point
-plainTransformer Ur kVA uk uR = times (Ur * Ur) (1000 * kVA) (record { re = uR; im = uxOf uk uR; den = 100000 })
+plainTransformer Ur kVA uk uR = times (Ur * Ur) (1000 * kVA) (shortCircuit uR (uxOf uk uR))
 
 -- "Transformer, own side: K_T·(uR + j·ux)/100,000·UrOwn²/(1,000·kVA), .., c by the lower of the two nominal voltages."
 unfoldable pub transformer : ℕ → ℕ → ℕ → ℕ → ℕ → ℕ → Point
@@ -51,17 +55,17 @@ motor Ur kVA ratio ρ = times (10 * (Ur * Ur)) (ratio * (1000 * kVA)) (split ρ)
 abbrev pub apart : ℕ → ℕ → ℕ
 apart a b = a - b + (b - a)
 
--- "K_S = Un²/Ur²·low²/high²·c/(1 + |xd − xT|·sin), c and Un of the bus, xd as a fraction, xT = ux/100,000", with c in hundredths, the sine
--- s in ten-thousandths, and d = |xd − ux|, both in 10⁻⁵:
--- 1 + d/10⁵·s/10⁴ = (10⁹ + d·s)/10⁹, so K_S = Un²·low²·c·10⁹/(Ur²·high²·100·(10⁹ + d·s)) = Un²·low²·(10⁷·c)/(Ur²·high²·(10⁹ + d·s))
+-- "K_S = Un²/Ur²·low²/high²·c/(1 + |xd − xT|·sin), c and Un of the bus, xd as a fraction, xT = ux/100,000", which is w/10⁸ now; with c in
+-- hundredths, the sine s in ten-thousandths, and d = |xd − xT| in 10⁻⁸:
+-- 1 + d/10⁸·s/10⁴ = (10¹² + d·s)/10¹², so K_S = Un²·low²·c·10¹²/(Ur²·high²·100·(10¹² + d·s)) = Un²·low²·(10¹⁰·c)/(Ur²·high²·(10¹² + d·s))
 abbrev pub correctS : ℕ → ℕ → ℕ → ℕ → ℕ → ℕ → ℕ → Point → Point
-correctS c Un Ur low high d s z = times (Un * Un * (low * low) * (10000000 * c)) (Ur * Ur * (high * high) * (1000000000 + d * s)) z
+correctS c Un Ur low high d s z = times (Un * Un * (low * low) * (10000000000 * c)) (Ur * Ur * (high * high) * (1000000000000 + d * s)) z
 
 -- "Z = K_S·(t²·Z_G + Z_T), t high over low rated volts, Z_G the generator's impedance without K_G, Z_T the transformer's on its high side
 -- without K_T"
 unfoldable pub stationUnit : ℕ → ℕ → ℕ → ℕ → ℕ → ℕ → ℕ → ℕ → ℕ → ℕ → ℕ → ℕ → Point
 stationUnit tolerance Un Ur kVA xd ρ powerFactor low high kVAT uk uR =
-    correctS (factorC tolerance Un) Un Ur low high (apart xd (uxOf uk uR)) (sineOf powerFactor)
+    correctS (factorC tolerance Un) Un Ur low high (apart (1000 * xd) (uxOf uk uR)) (sineOf powerFactor)
     (sum (times (high * high) (low * low) (plainGenerator Ur kVA xd ρ)) (plainTransformer high kVAT uk uR))
 
 -- "the sum of rated current·k": one converter's amperes, on the real axis, from tenths of an ampere and hundredths

@@ -1,4 +1,4 @@
-// Document 01's factors, each equal to its definition; where a table ends before the argument does, to its nearest entry.
+// The factors of documents 01 and 02, each equal to its definition; where a table ends before the argument does, to its nearest entry.
 use crate::tables::PEAKS;
 use crate::tables::SINES;
 use crate::tables::SPLITS;
@@ -32,8 +32,9 @@ pub fn sine(p: u32) -> u32
     }
 }
 
-// A transformer's ux, by uk and uR, all in thousandths of a percent.
-pub fn reactance(uk: u32, ur: u32) -> u32
+// A transformer's ux in millionths of a percent, by uk and uR in thousandths. Sixteen bits hold document 01's range twice over, and keep the
+// square within 64.
+pub fn reactance(uk: u16, ur: u16) -> u32
     ensures { λ r. ⌜ r ≡ uxOf uk ur ⌝ }
 {
     if uk <= ur {
@@ -41,7 +42,7 @@ pub fn reactance(uk: u32, ur: u32) -> u32
     }
     let k = uk as u64;
     let r = ur as u64;
-    enclosure::roots::root(k * k - r * r) as u32
+    enclosure::roots::root((k * k - r * r) * 1_000_000) as u32
 }
 
 // f, X over Z in millionths, by R/X in hundredths; above 200 that of 200.

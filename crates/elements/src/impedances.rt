@@ -9,7 +9,10 @@ use enclosure::add;
 use enclosure::nothing;
 use enclosure::of;
 use enclosure::scale;
+use enclosure::scale_wide;
 ghost use mathlib.Core.Path.{_≡_};
+ghost use Prim.Native.Nat.{_+_, _*_, max};
+ghost use Rattle.elements.specs.Factors.{sineOf};
 ghost use Rattle.elements.specs.Impedance.{apart};
 ghost use Rattle.elements.specs.Doubles.{lineBy, transformerBy, splitBy, feederBy, motorBy, generatorBy, stationUnitBy, converterBy};
 
@@ -27,10 +30,13 @@ pub fn transformer(tolerance: u32, lower: u32, own: u32, kva: u32, uk: u32, ur: 
     if 30_000 < uk {
         return nothing();
     }
-    let ux = reactance(uk, ur);
+    if uk < ur {
+        return nothing();
+    }
+    let ux = reactance(uk as u16, ur as u16);
     let c = voltage_factor(tolerance, lower);
-    let z = scale(scale(of(ur, ux), own, kva), own, 100_000_000);
-    scale(z, 9_500 * c, 1_000_000 + 6 * ux)
+    let z = scale(scale(of(1_000 * ur, ux), own, kva), own, 100_000_000);
+    scale(z, 9_500 * c, 1_000_000_000 + 6 * ux)
 }
 
 // R and X of an impedance of 10^8 ohms whose R/X is rho hundredths; nothing above 200, which no accepted record has.
@@ -81,10 +87,18 @@ pub fn generator(
 }
 
 // The difference by size.
-fn difference(a: u32, b: u32) -> u32
+fn difference(a: u64, b: u64) -> u64
     ensures { λ r. ⌜ r ≡ apart a b ⌝ }
 {
     if a < b { b - a } else { a - b }
+}
+
+// 1 + |xd - xT|·sin in 10^-12, what K_S is divided by.
+fn saturation(xd: u32, ux: u32, power_factor: u32) -> u64
+    ensures { λ r. ⌜ r ≡ 1000000000000 + apart (1000 * xd) ux * sineOf (max «power_factor» 70) ⌝ }
+{
+    let d = difference(1_000 * (xd as u64), ux as u64);
+    1_000_000_000_000 + d * (sine(power_factor) as u64)
 }
 
 // A generator and its own transformer, seen at a bus of these nominal volts on the transformer's high side. The high volts cancel.
@@ -109,16 +123,16 @@ pub fn station_unit(
     if 30_000 < uk {
         return nothing();
     }
-    let ux = reactance(uk, ur);
-    let generator_part = scale(scale(of(rho, 100), xd, 100), transformer_kva, kva);
-    let transformer_part = scale(scale(of(ur, ux), low, rated), low, rated);
+    if uk < ur {
+        return nothing();
+    }
+    let ux = reactance(uk as u16, ur as u16);
+    let generator_part = scale(scale(of(rho, 100), 10 * xd, 1), transformer_kva, kva);
+    let transformer_part = scale(scale(of(1_000 * ur, ux), low, rated), low, rated);
     let parts = add(generator_part, transformer_part);
     let z = scale(scale(parts, volts, transformer_kva), volts, 10);
-    scale(
-        z,
-        voltage_factor(tolerance, volts),
-        1_000_000_000 + difference(xd, ux) * sine(power_factor),
-    )
+    let c = voltage_factor(tolerance, volts) as u64;
+    scale_wide(z, c, saturation(xd, ux, power_factor))
 }
 
 // A converter's current in amperes, on the real axis.

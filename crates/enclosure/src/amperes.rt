@@ -23,7 +23,7 @@ fn capped(n: u64) -> u64
 }
 
 // A whole number as f64, nothing lost; 2^53 for any more.
-fn whole(n: u64) -> f64
+pub fn whole(n: u64) -> f64
     ensures { λ r. ⌜ r ≡ ofWhole n ⌝ }
 {
     capped(n) as f64

@@ -6,7 +6,7 @@ pub mod amperes;
 pub mod roots;
 
 ghost use mathlib.Core.Path.{_≡_};
-ghost use Prim.Native.Nat.{_<_};
+ghost use Prim.Native.Nat.{_<_, _^_, min};
 ghost use Rattle.enclosure.specs.Doubles.{none, wholePoint, added, empty, inverted, scaled, sizeBelow, lowerOf, upperOf, boundsOf};
 
 pub struct Complex {
@@ -72,6 +72,17 @@ pub fn scale(z: Complex, p: u32, q: u32) -> Complex
     ensures { λ r. ⌜ r ≡ scaled p q z ⌝ }
 {
     let t = p as f64 / q as f64;
+    Complex {
+        re: z.re * t,
+        im: z.im * t,
+    }
+}
+
+// p/q of z for whole numbers past 32 bits; 2^53 stands for any more.
+pub fn scale_wide(z: Complex, p: u64, q: u64) -> Complex
+    ensures { λ r. ⌜ r ≡ scaled (min p (2 ^ 53)) (min q (2 ^ 53)) z ⌝ }
+{
+    let t = amperes::whole(p) / amperes::whole(q);
     Complex {
         re: z.re * t,
         im: z.im * t,

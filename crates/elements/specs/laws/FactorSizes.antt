@@ -35,16 +35,16 @@ factorC-sized tolerance volts = go (leb volts 1000) (eqb tolerance 6)
 pub saturation-most : (xd p : ℕ) → xd ≤ 100000 → xd * sineOf p ≤ 1000000000
 saturation-most xd p h = mul-le-mul h (sine-most p)
 
--- the same of a unit, |xd − ux|·sin; |xd − ux| is at most the larger of the two
+-- the same of a unit, |xd − xT|·sin in 10¹²; |xd − xT| is at most the larger of the two
 apart-most : (a b k : ℕ) → a ≤ k → b ≤ k → apart a b ≤ k
 apart-most a b k h l = omega arith
 
--- and against xd: at most 1,310,000·xd with the 10⁹ that it is added to
-pub unit-saturation-over : (xd uk uR p : ℕ) → 1000 ≤ xd → uk ≤ 30000 → 1000000000 + apart xd (uxOf uk uR) * sineOf p ≤ 1310000 * xd
+-- and against xd: at most 1.31·10⁹·xd with the 10¹² that it is added to
+pub unit-saturation-over : (xd uk uR p : ℕ) → 1000 ≤ xd → uk ≤ 30000 → 1000000000000 + apart (1000 * xd) (uxOf uk uR) * sineOf p ≤ 1310000000 * xd
 unit-saturation-over xd uk uR p h k = go (uxOf uk uR) (ux-most uk uR)
   where
-    go : (ux : ℕ) → ux ≤ uk → 1000000000 + apart xd ux * sineOf p ≤ 1310000 * xd
-    go ux l = let m : apart xd ux ≤ xd + 30000 = omega arith in omega (arith, mul-le-mul m (sine-most p))
+    go : (ux : ℕ) → ux ≤ 1000 * uk → 1000000000000 + apart (1000 * xd) ux * sineOf p ≤ 1310000000 * xd
+    go ux l = let m : apart (1000 * xd) ux ≤ 1000 * xd + 30000000 = omega arith in omega (arith, mul-le-mul m (sine-most p))
 
-pub unit-saturation-most : (xd uk uR p : ℕ) → xd ≤ 100000 → uk ≤ 30000 → apart xd (uxOf uk uR) * sineOf p ≤ 1000000000
-unit-saturation-most xd uk uR p h k = mul-le-mul (apart-most xd (uxOf uk uR) 100000 h (omega (arith, ux-most uk uR))) (sine-most p)
+pub unit-saturation-most : (xd uk uR p : ℕ) → xd ≤ 100000 → uk ≤ 30000 → apart (1000 * xd) (uxOf uk uR) * sineOf p ≤ 1000000000000
+unit-saturation-most xd uk uR p h k = mul-le-mul (apart-most (1000 * xd) (uxOf uk uR) 100000000 (omega arith) (omega (arith, ux-most uk uR))) (sine-most p)

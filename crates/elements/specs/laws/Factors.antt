@@ -1,4 +1,4 @@
--- The factors are what document 01 says: c by its three cases, the least s, the greatest ux, the greatest f. Assumes nothing.
+-- The factors are what documents 01 and 02 say: c by its three cases, the least s, the greatest w, the greatest f. Assumes nothing.
 use Prim.Native.Nat.{ℕ, _+_, _-_, _*_, _/_, _≤_, _<_}
 use mathlib.Core.Path.{_≡_}
 use native.Mathlib.Omega.{arith}
@@ -31,21 +31,21 @@ sine-least p s h = rootUp-least (100000000 - 10000 * (p * p)) s (omega arith)
 pub sine-most : (p : ℕ) → sineOf p ≤ 10000
 sine-most p = sine-least p 10000 (omega arith)
 
-pub ux-fits : (uk uR : ℕ) → uR ≤ uk → uxOf uk uR * uxOf uk uR + uR * uR ≤ uk * uk
+pub ux-fits : (uk uR : ℕ) → uR ≤ uk → uxOf uk uR * uxOf uk uR + uR * uR * 1000000 ≤ uk * uk * 1000000
 unfolding uxOf
-ux-fits uk uR l = omega (arith, root-is (uk * uk - uR * uR) .low, mul-le-mul l l)
+ux-fits uk uR l = omega (arith, root-is ((uk * uk - uR * uR) * 1000000) .low, mul-le-mul l l)
 
-pub ux-greatest : (uk uR w : ℕ) → w * w + uR * uR ≤ uk * uk → w ≤ uxOf uk uR
+pub ux-greatest : (uk uR w : ℕ) → w * w + uR * uR * 1000000 ≤ uk * uk * 1000000 → w ≤ uxOf uk uR
 unfolding uxOf
-ux-greatest uk uR w h = root-greatest (uk * uk - uR * uR) w (omega arith)
+ux-greatest uk uR w h = root-greatest ((uk * uk - uR * uR) * 1000000) w (omega arith)
 
-pub ux-most : (uk uR : ℕ) → uxOf uk uR ≤ uk
+pub ux-most : (uk uR : ℕ) → uxOf uk uR ≤ 1000 * uk
 unfolding uxOf
-ux-most uk uR = omega (arith, root-below (uk * uk - uR * uR) (uk + 1) (omega arith))
+ux-most uk uR = omega (arith, root-below ((uk * uk - uR * uR) * 1000000) (1000 * uk + 1) (omega arith))
 
 pub ux-none : (uk uR : ℕ) → uk ≤ uR → uxOf uk uR ≡ 0
 unfolding uxOf
-ux-none uk uR l = omega (arith, root-below (uk * uk - uR * uR) 1 (omega (arith, mul-le-mul l l)))
+ux-none uk uR l = omega (arith, root-below ((uk * uk - uR * uR) * 1000000) 1 (omega (arith, mul-le-mul l l)))
 
 pub split-fits : (ρ : ℕ) → splitOf ρ * splitOf ρ * (10000 + ρ * ρ) ≤ 10000000000000000
 unfolding splitOf
@@ -59,11 +59,11 @@ split-greatest ρ f h = root-greatest (10000000000000000 / (10000 + ρ * ρ)) f 
 pub split-most : (ρ : ℕ) → splitOf ρ ≤ 1000000
 split-most ρ = root-le (splitOf ρ) 1000000 (omega (arith, split-fits ρ))
 
--- ---- for the code: the product of two numbers of 32 bits, and the root of a number of 64
-pub product-most : {a b : ℕ} → a < 4294967296 → b < 4294967296 → a * b ≤ 4294967295 * 4294967295
+-- ---- for the code: the product of two numbers of 16 bits, and the root of a number of 64
+pub product-most : {a b : ℕ} → a < 65536 → b < 65536 → a * b ≤ 65535 * 65535
 product-most {a} {b} h k =
-    let l : a ≤ 4294967295 = omega arith in
-    let m : b ≤ 4294967295 = omega arith in
+    let l : a ≤ 65535 = omega arith in
+    let m : b ≤ 65535 = omega arith in
     mul-le-mul l m
 
 pub root-fits : {x r : ℕ} → r ≡ rootOf x → x < 18446744073709551616 → r < 4294967296

@@ -13,12 +13,12 @@ use Rattle.enclosure.specs.declared.Complex.{Complex}
 use Rattle.enclosure.specs.laws.StepErrors.{parts}
 use Rattle.enclosure.specs.Doubles.{wholePoint, added, scaled, inverted}
 use Rattle.enclosure.specs.laws.F64Errors.{value}
-use Rattle.enclosure.specs.laws.F64Range.{Good, Factor, f64-rules}
+use Rattle.enclosure.specs.laws.F64Range.{Good, Factor, Wide, f64-rules, wide-near}
 use Rattle.enclosure.specs.laws.ElementStart.{whole-near}
 use Rattle.elements.specs.Factors.{factorC, sineOf, uxOf, splitOf}
 use Rattle.elements.specs.laws.Factors.{ux-most}
 use Rattle.elements.specs.laws.FactorSizes.{split-re-most, split-im-most, factorC-sized, saturation-most, unit-saturation-most}
-use Rattle.elements.specs.Impedance.{line, transformer, split, feeder, motor, generator, apart, correctS, plainGenerator, stationUnit, converter}
+use Rattle.elements.specs.Impedance.{line, correctT, shortCircuit, transformer, split, feeder, motor, generator, apart, correctS, plainGenerator, stationUnit, converter}
 use Rattle.elements.specs.Doubles.{lineBy, transformerBy, splitBy, feederBy, motorBy, generatorBy, stationUnitBy, converterBy}
 
 -- z is within k parts in 2 ^ 53 of the exact x, and of a size that calculation can go on from
@@ -63,31 +63,31 @@ converter-near tenths k ht hk =
     (by 0 k 1000 _ _ (omega arith) hk (omega arith, omega arith) (start tenths 0 ht (omega arith)))
 
 -- K_T's numerator and denominator
-correction : (tolerance volts uk uR : ℕ) → uk ≤ 30000 → Factor (9500 * factorC tolerance volts) × Factor (1000000 + 6 * uxOf uk uR)
+correction : (tolerance volts uk uR : ℕ) → uk ≤ 30000 → Factor (9500 * factorC tolerance volts) × Factor (1000000000 + 6 * uxOf uk uR)
 correction tolerance volts uk uR h =
     let c = factorC-sized tolerance volts in
     let u = ux-most uk uR in
     ((omega (arith, c .0), omega (arith, c .1)), (omega arith, omega arith))
 
-pub transformer-near : (tolerance lower own kVA uk uR : ℕ) → uk ≤ 30000 → uR < 2 ^ 32 → Factor own → Factor kVA
+pub transformer-near : (tolerance lower own kVA uk uR : ℕ) → uk ≤ 30000 → uR ≤ uk → Factor own → Factor kVA
     → Calculated 24 (transformer tolerance lower own kVA uk uR) (transformerBy tolerance lower own kVA uk uR)
 unfolding transformer transformerBy
 transformer-near tolerance lower own kVA uk uR hk hr ho hv =
-    rw (le-leb uk 30000 hk)
+    rw (le-leb uk 30000 hk, le-leb uR uk hr)
     (go (factorC tolerance lower) (uxOf uk uR) (correction tolerance lower uk uR hk) (omega (arith, ux-most uk uR)))
   where
-    same : (a c x : ℕ) → a * own * own * (9500 * c) * (100000 * (1000 * kVA) * (1000000 + 6 * x)) ≡ a * (own * own) * (9500 * c) * (1 * kVA * 100000000 * (1000000 + 6 * x))
+    same : (a c x : ℕ) → a * own * own * (9500 * c) * (100000000 * (1000 * kVA) * (1000000000 + 6 * x)) ≡ a * (own * own) * (9500000 * c) * (1 * kVA * 100000000 * (1000000000 + 6 * x))
     same a c x = identity (a ∷ own ∷ c ∷ kVA ∷ x ∷ []) (search read depth 40 fits 20000) refl
 
-    go : (c x : ℕ) → Factor (9500 * c) × Factor (1000000 + 6 * x) → x < 2 ^ 32
-        → Calculated 24 (times (9500 * c) (1000000 + 6 * x) (times (own * own) (1000 * kVA) (record { re = uR; im = x; den = 100000 })))
-        (scaled (9500 * c) (1000000 + 6 * x) (scaled own 100000000 (scaled own kVA (wholePoint uR x))))
+    go : (c x : ℕ) → Factor (9500 * c) × Factor (1000000000 + 6 * x) → x < 2 ^ 32
+        → Calculated 24 (correctT c x (times (own * own) (1000 * kVA) (shortCircuit uR x)))
+        (scaled (9500 * c) (1000000000 + 6 * x) (scaled own 100000000 (scaled own kVA (wholePoint (1000 * uR) x))))
     go c x v l =
-        equal 24 (times (9500 * c) (1000000 + 6 * x) (times own 100000000 (times own kVA (record { re = uR; im = x; den = 1 })))) _ _
+        equal 24 (times (9500 * c) (1000000000 + 6 * x) (times own 100000000 (times own kVA (record { re = 1000 * uR; im = x; den = 1 })))) _ _
         (mul-pos (mul-pos (omega arith) (mul-pos (omega arith) (hv .0))) (v .1 .0))
-        (record { re = same uR c x; im = same x c x })
-        (by 16 (9500 * c) (1000000 + 6 * x) _ _ (omega arith) (v .0) (v .1)
-        (by 8 own 100000000 _ _ (omega arith) ho (omega arith, omega arith) (by 0 own kVA _ _ (omega arith) ho hv (start uR x hr l))))
+        (record { re = same (1000 * uR) c x; im = same x c x })
+        (by 16 (9500 * c) (1000000000 + 6 * x) _ _ (omega arith) (v .0) (v .1)
+        (by 8 own 100000000 _ _ (omega arith) ho (omega arith, omega arith) (by 0 own kVA _ _ (omega arith) ho hv (start (1000 * uR) x (omega arith) l))))
 
 -- a machine whose impedance is split by f: the pair f·ρ and f·100 first
 split-start : (ρ : ℕ) → ρ ≤ 200 → Calculated 0 (record { re = splitOf ρ * ρ; im = splitOf ρ * 100; den = 1 }) (splitBy ρ)
@@ -145,32 +145,32 @@ generator-near tolerance Un Ur kVA xd ρ powerFactor hx hρ hp hn hr hv =
         (by 0 Ur kVA _ _ (omega arith) hr hv (start (xd * ρ) (xd * 100) (omega (arith, mul-le-mul hx hρ)) (omega arith)))))
 
 -- ---- a power station unit: t² and K_S cancel the high volts, and of the low volts and the generator's the transformer's part alone keeps a
--- ratio. D is |xd − ux|·s
+-- ratio. D is |1,000·xd − w|·s
 module _ (c D Un Ur kVA xd ρ low kVAT uR ux : ℕ) where
   abbrev pub reducedUnit : Point
   reducedUnit =
-      times c (1000000000 + D) (times Un 10 (times Un kVAT
-      (sum (times kVAT kVA (times xd 100 (record { re = ρ; im = 100; den = 1 }))) (times low Ur (times low Ur (record { re = uR; im = ux; den = 1 }))))))
+      times c (1000000000000 + D) (times Un 10 (times Un kVAT
+      (sum (times kVAT kVA (times (10 * xd) 1 (record { re = ρ; im = 100; den = 1 }))) (times low Ur (times low Ur (record { re = 1000 * uR; im = ux; den = 1 }))))))
 
-  -- one part of it, p being ρ or 100 and u uR or ux, over the literal form's
+  -- one part of it, p being ρ or 100 and u 1,000·uR or ux, over the literal form's
   same-part : (high p u : ℕ)
-      → (p * xd * kVAT * (1 * Ur * Ur) + u * low * low * (1 * 100 * kVA)) * Un * Un * c
-      * (10000000 * (1000 * kVA) * (low * low) * (100000 * (1000 * kVAT)) * (Ur * Ur * (high * high) * (1000000000 + D)))
-      ≡ (xd * p * (Ur * Ur) * (high * high) * (100000 * (1000 * kVAT)) + u * (high * high) * (10000000 * (1000 * kVA) * (low * low))) * (Un * Un * (low * low) * (10000000 * c))
-      * (1 * 100 * kVA * (1 * Ur * Ur) * kVAT * 10 * (1000000000 + D))
+      → (p * (10 * xd) * kVAT * (1 * Ur * Ur) + u * low * low * (1 * 1 * kVA)) * Un * Un * c
+      * (10000000 * (1000 * kVA) * (low * low) * (100000000 * (1000 * kVAT)) * (Ur * Ur * (high * high) * (1000000000000 + D)))
+      ≡ (xd * p * (Ur * Ur) * (high * high) * (100000000 * (1000 * kVAT)) + u * (high * high) * (10000000 * (1000 * kVA) * (low * low))) * (Un * Un * (low * low) * (10000000000 * c))
+      * (1 * 1 * kVA * (1 * Ur * Ur) * kVAT * 10 * (1000000000000 + D))
   same-part high p u = identity (c ∷ D ∷ Un ∷ Ur ∷ kVA ∷ xd ∷ low ∷ kVAT ∷ high ∷ p ∷ u ∷ []) (search read depth 40 fits 20000) refl
 
 -- THE LITERAL FORM AND THE ONE THAT IS CALCULATED ARE THE SAME
 pub unit-same : (tolerance Un Ur kVA xd ρ powerFactor low high kVAT uk uR : ℕ)
-    → Same (reducedUnit (factorC tolerance Un) (apart xd (uxOf uk uR) * sineOf powerFactor) Un Ur kVA xd ρ low kVAT uR (uxOf uk uR))
+    → Same (reducedUnit (factorC tolerance Un) (apart (1000 * xd) (uxOf uk uR) * sineOf powerFactor) Un Ur kVA xd ρ low kVAT uR (uxOf uk uR))
     (stationUnit tolerance Un Ur kVA xd ρ powerFactor low high kVAT uk uR)
 unfolding stationUnit
 unit-same tolerance Un Ur kVA xd ρ powerFactor low high kVAT uk uR =
-    go (factorC tolerance Un) (apart xd (uxOf uk uR)) (sineOf powerFactor) (uxOf uk uR)
+    go (factorC tolerance Un) (apart (1000 * xd) (uxOf uk uR)) (sineOf powerFactor) (uxOf uk uR)
   where
     go : (c d s ux : ℕ) → Same (reducedUnit c (d * s) Un Ur kVA xd ρ low kVAT uR ux)
-        (correctS c Un Ur low high d s (sum (times (high * high) (low * low) (plainGenerator Ur kVA xd ρ)) (times (high * high) (1000 * kVAT) (record { re = uR; im = ux; den = 100000 }))))
-    go c d s ux = record { re = same-part c (d * s) Un Ur kVA xd ρ low kVAT uR ux high ρ uR; im = same-part c (d * s) Un Ur kVA xd ρ low kVAT uR ux high 100 ux }
+        (correctS c Un Ur low high d s (sum (times (high * high) (low * low) (plainGenerator Ur kVA xd ρ)) (times (high * high) (1000 * kVAT) (shortCircuit uR ux))))
+    go c d s ux = record { re = same-part c (d * s) Un Ur kVA xd ρ low kVAT uR ux high ρ (1000 * uR); im = same-part c (d * s) Un Ur kVA xd ρ low kVAT uR ux high 100 ux }
 
 pub unit-proper : (tolerance Un Ur kVA xd ρ powerFactor low high kVAT uk uR : ℕ) → 0 < Ur → 0 < kVA → 0 < low → 0 < high → 0 < kVAT
     → 0 < stationUnit tolerance Un Ur kVA xd ρ powerFactor low high kVAT uk uR .den
@@ -179,22 +179,25 @@ unit-proper tolerance Un Ur kVA xd ρ powerFactor low high kVAT uk uR r v l h t 
     mul-pos (mul-pos (mul-pos (mul-pos (omega arith) (mul-pos (omega arith) v)) (mul-pos l l)) (mul-pos (omega arith) (mul-pos (omega arith) t)))
     (mul-pos (mul-pos (mul-pos r r) (mul-pos h h)) (omega arith))
 
-pub unit-near : (tolerance Un Ur kVA xd ρ powerFactor low high kVAT uk uR : ℕ) → xd ≤ 100000 → uk ≤ 30000 → 70 ≤ powerFactor → ρ < 2 ^ 32 → uR < 2 ^ 32
+pub unit-near : (tolerance Un Ur kVA xd ρ powerFactor low high kVAT uk uR : ℕ) → xd ≤ 100000 → uk ≤ 30000 → uR ≤ uk → 70 ≤ powerFactor → ρ < 2 ^ 32
     → Factor Un → Factor Ur → Factor kVA → Factor xd → Factor low → Factor high → Factor kVAT
     → Calculated 44 (stationUnit tolerance Un Ur kVA xd ρ powerFactor low high kVAT uk uR) (stationUnitBy tolerance Un Ur kVA xd ρ powerFactor low kVAT uk uR)
 unfolding stationUnitBy
-unit-near tolerance Un Ur kVA xd ρ powerFactor low high kVAT uk uR hx hk hp hρ hR hn hr hv hd hl hh ht =
-    rw (le-leb xd 100000 hx, le-leb uk 30000 hk, max-eq-left hp)
+unit-near tolerance Un Ur kVA xd ρ powerFactor low high kVAT uk uR hx hk hR hp hρ hn hr hv hd hl hh ht =
+    rw (le-leb xd 100000 hx, le-leb uk 30000 hk, le-leb uR uk hR, max-eq-left hp)
     (equal 44 _ (stationUnit tolerance Un Ur kVA xd ρ powerFactor low high kVAT uk uR) _ (unit-proper tolerance Un Ur kVA xd ρ powerFactor low high kVAT uk uR (hr .0) (hv .0) (hl .0) (hh .0) (ht .0)) (unit-same tolerance Un Ur kVA xd ρ powerFactor low high kVAT uk uR)
-    (go (factorC tolerance Un) (apart xd (uxOf uk uR) * sineOf powerFactor) (uxOf uk uR) (factorC-sized tolerance Un) (unit-saturation-most xd uk uR powerFactor hx hk) (omega (arith, ux-most uk uR))))
+    (go (factorC tolerance Un) (apart (1000 * xd) (uxOf uk uR) * sineOf powerFactor) (uxOf uk uR) (factorC-sized tolerance Un) (unit-saturation-most xd uk uR powerFactor hx hk) (omega (arith, ux-most uk uR))))
   where
-    go : (c D ux : ℕ) → (100 < c) × (c ≤ 110) → D ≤ 1000000000 → ux < 2 ^ 32
+    wide : (c D : ℕ) → (100 < c) × (c ≤ 110) → D ≤ 1000000000000 → Wide c (1000000000000 + D)
+    wide c D h l = record { over = omega arith; under = omega arith; over-most = omega arith; under-most = omega arith; high = omega arith; low = omega arith }
+
+    go : (c D ux : ℕ) → (100 < c) × (c ≤ 110) → D ≤ 1000000000000 → ux < 2 ^ 32
         → Calculated 44 (reducedUnit c D Un Ur kVA xd ρ low kVAT uR ux)
-        (scaled c (1000000000 + D) (scaled Un 10 (scaled Un kVAT (added (scaled kVAT kVA (scaled xd 100 (wholePoint ρ 100))) (scaled low Ur (scaled low Ur (wholePoint uR ux)))))))
+        (scaled c (1000000000000 + D) (scaled Un 10 (scaled Un kVAT (added (scaled kVAT kVA (scaled (10 * xd) 1 (wholePoint ρ 100))) (scaled low Ur (scaled low Ur (wholePoint (1000 * uR) ux)))))))
     go c D ux h l m =
-        by 36 c (1000000000 + D) _ _ (omega arith) (omega arith, omega arith) (omega arith, omega arith)
+        wide-near 36 c (1000000000000 + D) _ _ (wide c D h l) (omega arith)
         (by 28 Un 10 _ _ (omega arith) hn (omega arith, omega arith)
         (by 20 Un kVAT _ _ (omega arith) hn ht
         (both 16 _ _ _ _ (omega arith)
-        (by 8 kVAT kVA _ _ (omega arith) ht hv (by 0 xd 100 _ _ (omega arith) hd (omega arith, omega arith) (start ρ 100 hρ (omega arith))))
-        (by 8 low Ur _ _ (omega arith) hl hr (by 0 low Ur _ _ (omega arith) hl hr (start uR ux hR m))))))
+        (by 8 kVAT kVA _ _ (omega arith) ht hv (by 0 (10 * xd) 1 _ _ (omega arith) (omega (arith, hd .0), omega arith) (omega arith, omega arith) (start ρ 100 hρ (omega arith))))
+        (by 8 low Ur _ _ (omega arith) hl hr (by 0 low Ur _ _ (omega arith) hl hr (start (1000 * uR) ux (omega arith) m))))))

@@ -1,4 +1,5 @@
--- Document 01, "Worked points": the starred points of the factors, as one table; the generator unit; a feeder's current and peak.
+-- Document 01, "Worked points": the starred points of the factors, as one table, ux by document 02, order 6; the generator unit; a feeder's
+-- current and peak.
 -- Assumes nothing.
 use Prim.Native.Nat.{ℕ, _+_, _*_, _≤_, _<_}
 use mathlib.Core.Path.{_≡_, refl}
@@ -17,8 +18,9 @@ pub record Starred : Type 0 where
   pub sine-90 : sineOf 90 ≡ 4359
   pub sine-80 : sineOf 80 ≡ 6000
   pub sine-70 : sineOf 70 ≡ 7142
-  -- "ux(6,000; 1,000) = 5,916. f(0) = 1,000,000, f(10) = 995,037, f(42) = 921,982."
-  pub ux-6000-1000 : uxOf 6000 1000 ≡ 5916
+  -- "so 6,000 and 1,000 give 5,916,079", where document 01 had 5,916
+  pub ux-6000-1000 : uxOf 6000 1000 ≡ 5916079
+  -- "f(0) = 1,000,000, f(10) = 995,037, f(42) = 921,982."
   pub f-0 : splitOf 0 ≡ 1000000
   pub f-10 : splitOf 10 ≡ 995037
   pub f-42 : splitOf 42 ≡ 921982

@@ -235,22 +235,22 @@ pub ratio-most : (b p q L T : ℕ) → 0 < q → 0 < L → p ≤ b → q ≤ b �
 ratio-most b p q L T z l hp hq h =
     from-over (b ∷ p ∷ q ∷ L ∷ T ∷ []) 18014398509481984 (omega arith) (h .0 ⊹ 18014398509481984 * T ⋆ z ⊹ 18014398509481986 * L ⋆ hp ⊹ 9007199254740992 ⋆ hq ⊹ 9007199254740992 * b ⋆ l) (search read depth 40 fits 20000) refl
 
-fits-product : (A T s L e m : ℕ) → A ≤ s → s ≤ L * e → T ≤ 2 * 2 ^ 32 * L → e * 2 ^ 40 ≤ m → A * T ≤ L * L * m
+fits-product : (A T s L e m : ℕ) → A ≤ s → s ≤ L * e → T ≤ 2 * 2 ^ 46 * L → e * 2 ^ 47 ≤ m → A * T ≤ L * L * m
 fits-product A T s L e m a h t k = from (A ∷ T ∷ L ∷ e ∷ m ∷ []) (mul-le-mul (le-trans a h) t ⊹ L * L ⋆ k) (search read depth 40 fits 20000) refl
 
 pub ratio-large : (p q : ℕ) → 0 < p → q ≤ 2 ^ 46 → parts * q ≤ p * unit
 ratio-large p q z h = from (p ∷ q ∷ unit ∷ []) (parts ⋆ h ⊹ unit-large ⊹ unit ⋆ z) (search read depth 40 fits 20000) refl
 
-light : (A B L p q : ℕ) → 2 ^ 100 ≤ A + B → 0 < p → q < 2 ^ 32 → 2 * (parts * (L * q)) ≤ A * p * L + B * p * L
+light : (A B L p q : ℕ) → 2 ^ 100 ≤ A + B → 0 < p → q < 2 ^ 46 → 2 * (parts * (L * q)) ≤ A * p * L + B * p * L
 light A B L p q h z k = from (A ∷ B ∷ L ∷ p ∷ q ∷ []) (L * 18014398509481984 ⋆ k ⊹ L * 2 ^ 100 ⋆ z ⊹ L * p ⋆ h) (search read depth 40 fits 20000) refl
 
-module _ (z : Complex) (f : Fine z) (p q : ℕ) (p₀ : 0 < p) (q₀ : 0 < q) (p₁ : p < 2 ^ 32) (q₁ : q < 2 ^ 32) where
+module _ (z : Complex) (f : Fine z) (p q : ℕ) (p₀ : 0 < p) (q₀ : 0 < q) (p₁ : p < 2 ^ 46) (q₁ : q < 2 ^ 46) where
   by : Rounded (ratio p q) (p * unit) q
   by = ratio-rounds p q (omega arith) (omega arith) q₀
 
   top : (A : ℕ) → A ≤ size z → Sized span (size z) → A * unitsOf (ratio p q) ≤ unit * unit * most
   top A l (inl e) = zero-le-of _ _ (times-zero A _ (omega arith))
-  top A l (inr h) = fits-product A (unitsOf (ratio p q)) (size z) unit span most l (h .1) (ratio-most (2 ^ 32) p q unit _ q₀ unit-pos (omega arith) (omega arith) (by .law)) span-ratio
+  top A l (inr h) = fits-product A (unitsOf (ratio p q)) (size z) unit span most l (h .1) (ratio-most (2 ^ 46) p q unit _ q₀ unit-pos (omega arith) (omega arith) (by .law)) span-ratio
 
   part-scaled : Sized span (size z) → (x : Float) → Is x (unitsOf x) → unitsOf x ≤ size z → Rounded (mul binary64 x (ratio p q)) (unitsOf x * unitsOf (ratio p q)) unit
   part-scaled s x i l = mul-rounds x (ratio p q) _ _ i (by .is) (top (unitsOf x) l s)

@@ -14,7 +14,7 @@ use Rattle.algebra.specs.Polynomial.{two-sq, le-or-le}
 use Rattle.algebra.specs.Reading.{poly, from, from-over, read, _⊹_, _⋆_}
 use Rattle.enclosure.specs.laws.Close.{Close}
 use Rattle.enclosure.specs.Exact.{norm, Point, nothing, sum, times, turned, inverse, exact}
-use Rattle.enclosure.specs.laws.Nearness.{Near, NearSteps, Rules, NearTo, near-steps-rules}
+use Rattle.enclosure.specs.laws.Nearness.{Near, NearSteps, Rules, NearTo, near-steps-rules, near-times, near-trans}
 use Rattle.enclosure.specs.declared.Complex.{Complex}
 use Rattle.enclosure.specs.laws.Units.{unit, span, Between, Sized, between-more, unit-pos, Is, unitsOf, units-is}
 use Rattle.enclosure.specs.laws.StepErrors.{parts}
@@ -60,6 +60,18 @@ no-size (suc s) (suc d) (suc t) u z e h = absurd (omega arith)
 -- what a scaling multiplies or divides by: volts, kVA, metres, ratios
 abbrev pub Factor : ℕ → Type 0
 Factor p = (0 < p) × (p < 2 ^ 32)
+
+-- what it can multiply and divide by at the same cost: numbers of up to 46 bits, neither of them 2 ^ 39 times the other
+pub record Wide (p q : ℕ) : Type 0 where
+  pub over : 0 < p
+  pub under : 0 < q
+  pub over-most : p < 2 ^ 46
+  pub under-most : q < 2 ^ 46
+  pub high : p ≤ 2 ^ 39 * q
+  pub low : q ≤ 2 ^ 39 * p
+
+factors-wide : (p q : ℕ) → Factor p → Factor q → Wide p q
+factors-wide p q h k = record { over = h .0; under = k .0; over-most = omega arith; under-most = omega arith; high = omega arith; low = omega arith }
 
 module _ (w : ℕ) where
   -- d steps' worth of costs from a size within 2 ^ w
@@ -127,10 +139,10 @@ module _ (w : ℕ) where
     )
 
     -- r is s·p/q to a factor of 2
-    size-scaled : (r p q : ℕ) → 0 < p → 0 < q → p < 2 ^ 32 → q < 2 ^ 32 → s * p ≤ 2 * (r * q) → r * q ≤ 2 * (s * p) → (L ≤ r * (E * 2 ^ 33)) × (r ≤ L * (E * 2 ^ 33))
-    size-scaled r p q p₀ q₀ p₁ q₁ h k = (
-      from (L ∷ E ∷ s ∷ r ∷ p ∷ q ∷ []) (lo ⊹ E * s ⋆ p₀ ⊹ E ⋆ h ⊹ 2 * E * r ⋆ q₁) (search read depth 40 fits 20000) refl,
-      from (L ∷ E ∷ s ∷ r ∷ p ∷ q ∷ []) (r ⋆ q₀ ⊹ k ⊹ 2 * s ⋆ p₁ ⊹ 2 ^ 33 ⋆ hi) (search read depth 40 fits 20000) refl,
+    size-scaled : (r p q : ℕ) → Wide p q → s * p ≤ 2 * (r * q) → r * q ≤ 2 * (s * p) → (L ≤ r * (E * 2 ^ 40)) × (r ≤ L * (E * 2 ^ 40))
+    size-scaled r p q w h k = (
+      from-over (L ∷ E ∷ s ∷ r ∷ p ∷ q ∷ []) p (w .over) (p ⋆ lo ⊹ E ⋆ h ⊹ 2 * E * r ⋆ w .low) (search read depth 40 fits 20000) refl,
+      from-over (L ∷ E ∷ s ∷ r ∷ p ∷ q ∷ []) q (w .under) (k ⊹ 2 * s ⋆ w .high ⊹ 2 ^ 40 * q ⋆ hi) (search read depth 40 fits 20000) refl,
     )
 
   -- a sum of two, of which the other is no larger than E
@@ -203,16 +215,16 @@ module _ (w : ℕ) where
             (rw (← regroup (unitsOf (x .re)) (unitsOf (x .im)) unit) (n .0)) (rw (← regroup (unitsOf (x .re)) (unitsOf (x .im)) unit) (n .1))),
       )
 
-  scaled-range : (k₀ k p q : ℕ) (x r : Complex) → Factor p → Factor q → Range k₀ k (size x) → Near parts 4 (times p q (value x)) (value r) → Range k₀ (k + 8) (size r)
-  scaled-range k₀ k p q x r hp hq g h = go g (cancel-scale (unitsOf (x .re)) (unitsOf (x .im)) p q (size r) unit unit-pos (near-size parts 4 (times p q (value x)) (value r) parts-pos (lit≤ tt) h))
+  scaled-range : (k₀ k p q : ℕ) (x r : Complex) → Wide p q → Range k₀ k (size x) → Near parts 4 (times p q (value x)) (value r) → Range k₀ (k + 8) (size r)
+  scaled-range k₀ k p q x r wide g h = go g (cancel-scale (unitsOf (x .re)) (unitsOf (x .im)) p q (size r) unit unit-pos (near-size parts 4 (times p q (value x)) (value r) parts-pos (lit≤ tt) h))
     where
       go : Range k₀ k (size x) → (size x * p ≤ 2 * (size r * q)) × (size r * q ≤ 2 * (size x * p)) → Range k₀ (k + 8) (size r)
-      go (inl e) n = inl (no-size (size r) q (size x) p (hq .0) e (n .1))
+      go (inl e) n = inl (no-size (size r) q (size x) p (wide .under) e (n .1))
       go (inr g) n =
           inr (
             omega arith,
-            further k₀ k 8 (reach (k - k₀) * 2 ^ 33) (2 ^ 33) (size r) (g .0) (le-refl (reach (k - k₀) * 2 ^ 33)) (lit≤ tt)
-                (size-scaled unit (reach (k - k₀)) (size x) unit-pos (g .1 .0) (g .1 .1) (size r) p q (hp .0) (hq .0) (hp .1) (hq .1) (n .0) (n .1)),
+            further k₀ k 8 (reach (k - k₀) * 2 ^ 40) (2 ^ 40) (size r) (g .0) (le-refl (reach (k - k₀) * 2 ^ 40)) (lit≤ tt)
+                (size-scaled unit (reach (k - k₀)) (size x) unit-pos (g .1 .0) (g .1 .1) (size r) p q wide (n .0) (n .1)),
           )
 
   module _ (k₀ limit : ℕ) (small : w + 5 * (limit + 1 - k₀) ≤ 500) where
@@ -233,10 +245,10 @@ module _ (w : ℕ) where
     good-inverse k x l g =
         let f = fair-inverse x (g .fine) (good-sized span k₀ k x (reach-span (k - k₀) (omega arith)) g) in (f .0, record { fine = f .1; range = turned-range k₀ k x (inverted x) (g .range) (f .0) })
 
-    good-scale : (k p q : ℕ) (x : Complex) → Factor p → Factor q → k ≤ limit → Good k₀ k x → Near parts 4 (times p q (value x)) (value (scaled p q x)) × Good k₀ (k + 8) (scaled p q x)
-    good-scale k p q x hp hq l g =
-        let f = fair-scale x (g .fine) p q (hp .0) (hq .0) (hp .1) (hq .1) (good-sized span k₀ k x (reach-span (k - k₀) (omega arith)) g) in
-        (f .0, record { fine = f .1; range = scaled-range k₀ k p q x (scaled p q x) hp hq (g .range) (f .0) })
+    pub good-scale : (k p q : ℕ) (x : Complex) → Wide p q → k ≤ limit → Good k₀ k x → Near parts 4 (times p q (value x)) (value (scaled p q x)) × Good k₀ (k + 8) (scaled p q x)
+    good-scale k p q x w l g =
+        let f = fair-scale x (g .fine) p q (w .over) (w .under) (w .over-most) (w .under-most) (good-sized span k₀ k x (reach-span (k - k₀) (omega arith)) g) in
+        (f .0, record { fine = f .1; range = scaled-range k₀ k p q x (scaled p q x) w (g .range) (f .0) })
 
     pub doubles-near-steps : NearSteps doubles value (Good k₀) Factor parts limit 2 6 4 1
     doubles-near-steps = record {
@@ -249,7 +261,7 @@ module _ (w : ℕ) where
       fair-empty = λ k x l g. fair-empty x (g .fine) (good-sized span k₀ k x (reach-span (k - k₀) (omega arith)) g);
       fair-add = good-add;
       fair-inverse = good-inverse;
-      fair-scale = good-scale;
+      fair-scale = λ k p q x hp hq l g. good-scale k p q x (factors-wide p q hp hq) l g;
     }
 
 -- F64 KEEPS THE RULES OF NEARNESS for a further cost of 50, from numbers that are 0 or from 2 ^ -200 to 2 ^ 200
@@ -258,3 +270,9 @@ f64-rules k l = near-steps-rules doubles value (Good 200 k) Factor parts (k + 50
   where
     products : 2 * ((k + 50) * (k + 50 + 1)) ≤ 1 * parts
     products = let p : k + 50 ≤ 1000050 = omega arith in let q : k + 50 + 1 ≤ 1000051 = omega arith in omega (arith, mul-le-mul p q)
+
+-- and for a scaling by wider numbers
+pub wide-near : (k p q : ℕ) (x : Point) (z : Complex) → Wide p q → k ≤ 50 → NearTo value (Good 200 0) parts k x z → NearTo value (Good 200 0) parts (k + 8) (times p q x) (scaled p q z)
+wide-near k p q x z w l h =
+    let g = good-scale 200 0 50 (omega arith) k p q z w l (h .1) in
+    (near-trans parts k 4 _ _ _ (omega arith) (omega arith) (near-times parts k p q x (value z) (w .under) (h .0)) (g .0), g .1)

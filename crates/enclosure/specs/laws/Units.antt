@@ -51,7 +51,7 @@ pub span-most : span * span * 2 ^ 20 ≤ most
 unfolding span most
 span-most = lit≤ tt
 
-pub span-ratio : span * 2 ^ 40 ≤ most
+pub span-ratio : span * 2 ^ 47 ≤ most
 unfolding span most
 span-ratio = lit≤ tt
 

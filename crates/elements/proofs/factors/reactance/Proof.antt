@@ -1,4 +1,4 @@
--- `elements::factors::reactance` meets its contract. The product of two numbers of 32 bits fits 64.
+-- `elements::factors::reactance` meets its contract. A million times the product of two numbers of 16 bits fits 64.
 -- Assumes nothing.
 use mathlib.Core.Path.{sym}
 use native.Mathlib.Omega.{arith}
@@ -22,6 +22,9 @@ mul-root-2 c = record { fits = lt-of-le-of-lt (product-most (search needs) (sear
 sub-root : tie.Need-sub-root
 sub-root c = mul-le-mul (search needs) (search needs)
 
+mul-root-3 : tie.Need-mul-root-3
+mul-root-3 c = record { fits = omega (arith, product-most (c .before .fits .uk .fits) (c .before .fits .uk .fits)) }
+
 root-requires : tie.Need-root-requires
 root-requires c κs = search needs
 
@@ -35,4 +38,4 @@ returns-2 c = c .root .ensures
 
 pub reactance-spec : {M : Type 1} → statement M
 reactance-spec =
-    tie.close (tie.spec returns mul-root mul-root-2 sub-root root-requires cast-result returns-2)
+    tie.close (tie.spec returns mul-root mul-root-2 sub-root mul-root-3 root-requires cast-result returns-2)
