@@ -61,16 +61,16 @@ fn voltage_rows(tolerance: u32) {
     voltage_row(tolerance, 420_000);
 }
 
-fn reactance_row(uk: u32, ur: u32) {
+fn reactance_row(uk: u16, ur: u16) {
     letter(b'u');
-    field(uk);
-    field(ur);
+    field(uk as u32);
+    field(ur as u32);
     field(reactance(uk, ur));
     end();
 }
 
 // ux at uk, with uR from 0 to uk - 1.
-fn reactance_rows(uk: u32)
+fn reactance_rows(uk: u16)
     requires { ⌜ 1 ≤ uk ⌝ }
 {
     reactance_row(uk, 0);
@@ -87,6 +87,19 @@ fn reactance_grid() {
     }
 }
 
+// The least uk with every uR: here a thousandth of uR weighs most.
+fn least_reactances() {
+    for ur in 0..100 {
+        reactance_row(100, ur);
+    }
+}
+
+fn low_reactances() {
+    for uk in 101..301 {
+        reactance_rows(uk);
+    }
+}
+
 fn main() {
     voltage_rows(6);
     voltage_rows(10);
@@ -97,6 +110,11 @@ fn main() {
     row(b's', 4_294_967_295);
     reactance_row(6_000, 1_000);
     reactance_grid();
+    least_reactances();
+    low_reactances();
+    reactance_row(65_535, 0);
+    reactance_row(65_535, 65_534);
+    reactance_row(1_000, 6_000);
     rows(b'f', 0, 201);
     row(b'f', 201);
     row(b'f', 4_294_967_295);

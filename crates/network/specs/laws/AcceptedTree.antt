@@ -115,7 +115,7 @@ module _ {n : Network} (r : Rebuilt n) where
         let t = transformer-volts r i l k in
         let u = bus-volts r i l in
         let b = busAt (n .buses) i in
-        let h = transformer-near (n .tolerance) (min (records.parentRecord (n .buses) i .volts) (b .volts)) (b .f2) (b .f3) (b .f4) (b .f5) (f .uk-most) (omega (arith, f .uR, f .uk-most))
+        let h = transformer-near (n .tolerance) (min (records.parentRecord (n .buses) i .volts) (b .volts)) (b .f2) (b .f3) (b .f4) (b .f5) (f .uk-most) (omega (arith, f .uR))
         (le-trans (lit≤ tt) (rated-least _ _ (u .0) (t .1 .least)), omega (arith, rated-most (b .f2) (voltsOf n i) (u .1) (t .1 .most))) (le-trans (lit≤ tt) (f .kVA), omega (arith, f .kVA-most)) in
         rw k (h .0, h .1 .fine))
         (bus-kind r i l z)
@@ -284,7 +284,7 @@ module _ {n : Network} (r : Rebuilt n) where
         let t = rated-high k in
         let g = unit-volts r j l k in
         let h = admittance-near 44 _ _ (lit≤ tt) (unit-near (n .tolerance) U (p .f1) (p .f2) (p .f3) (p .f4) (p .f5) (p .low) (p .high) (p .«transformer_kva») (p .uk) (p .ur)
-        (f .xd-most) (f .uk-most) (f .power-factor) (omega (arith, f .ratio)) (omega (arith, w .uR-most)) hU (le-trans (lit≤ tt) (w .rated), omega (arith, g .most, f .low-most))
+        (f .xd-most) (f .uk-most) (omega (arith, f .uR)) (f .power-factor) (omega (arith, f .ratio)) hU (le-trans (lit≤ tt) (w .rated), omega (arith, g .most, f .low-most))
         (le-trans (lit≤ tt) (f .kVA), omega (arith, f .kVA-most)) (le-trans (lit≤ tt) (f .xd), omega (arith, f .xd-most)) (w .low-some, omega (arith, f .low-most))
         (w .high-some, omega (arith, rated-most (p .high) U (u .1) (t .most))) (le-trans (lit≤ tt) (f .transformer), omega (arith, f .transformer-most))) in
         rw k (h .0, h .1 .fine))

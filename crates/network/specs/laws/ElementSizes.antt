@@ -12,7 +12,7 @@ use Rattle.enclosure.specs.Exact.{Point, times, exact}
 use Rattle.elements.specs.Factors.{factorC, sineOf, uxOf, splitOf}
 use Rattle.elements.specs.laws.Factors.{ux-most, ux-greatest, split-greatest}
 use Rattle.elements.specs.laws.FactorSizes.{split-re-most, split-im-most, factorC-sized, saturation-most}
-use Rattle.elements.specs.Impedance.{line, transformer, split, feeder, motor, generator}
+use Rattle.elements.specs.Impedance.{line, correctT, shortCircuit, transformer, split, feeder, motor, generator}
 use Rattle.tree.specs.Grid.{timesSquare}
 use Rattle.tree.specs.laws.AdmittanceSizes.{AtMost, AtLeast}
 use Rattle.tree.specs.laws.TreeBounds.{Impedance}
@@ -40,39 +40,44 @@ module _ (r x metres circuits : ℕ) (hr : r ≤ 100000) (hx : x ≤ 100000) (so
   unfolding line
   line-least U hu = from (r ∷ x ∷ metres ∷ circuits ∷ U ∷ []) (2000000 * circuits ⋆ hu ⊹ 840000000000 ⋆ c₁ ⊹ 6720000000000 ⋆ mul-pos some m₀) (search read depth 40 fits 20000) refl
 
--- ---- a transformer: ux + uR is at least uk
-reactance-least : (uk uR ux : ℕ) → uk * uk < (ux + 1) * (ux + 1) + uR * uR → uk ≤ ux + uR
-reactance-least uk uR ux h = omega (arith, below-of-squares uk (ux + uR + 1) (le-trans h (poly (uR ∷ ux ∷ []) (search read depth 40 fits 20000) refl)))
+-- ---- a transformer: in millionths, ux and uR together are at least uk
+reactance-least : (uk uR ux : ℕ) → uk * uk * 1000000 < (ux + 1) * (ux + 1) + uR * uR * 1000000 → 1000 * uk ≤ ux + 1000 * uR
+reactance-least uk uR ux h =
+    omega (arith, below-of-squares (1000 * uk) (ux + 1000 * uR + 1) (le-trans (squared uk (ux + 1) uR h) (poly (uR ∷ ux ∷ []) (search read depth 40 fits 20000) refl)))
+  where
+    squared : (a b c : ℕ) → a * a * 1000000 < b * b + c * c * 1000000 → 1000 * a * (1000 * a) < b * b + 1000 * c * (1000 * c)
+    squared a b c l = omega arith
 
-ux-next : (uk uR : ℕ) → uR < uk → uk * uk < (uxOf uk uR + 1) * (uxOf uk uR + 1) + uR * uR
-ux-next uk uR h = lt-of-not-le (λ (l : (uxOf uk uR + 1) * (uxOf uk uR + 1) + uR * uR ≤ uk * uk). omega (arith, ux-greatest uk uR (uxOf uk uR + 1) l))
+ux-next : (uk uR : ℕ) → uR < uk → uk * uk * 1000000 < (uxOf uk uR + 1) * (uxOf uk uR + 1) + uR * uR * 1000000
+ux-next uk uR h =
+    lt-of-not-le (λ (l : (uxOf uk uR + 1) * (uxOf uk uR + 1) + uR * uR * 1000000 ≤ uk * uk * 1000000). omega (arith, ux-greatest uk uR (uxOf uk uR + 1) l))
 
 -- volts U of a bus, rated volts v near them, an impedance of s/d ohms with s at least k·v²
 apart-by : (P U v d s k D : ℕ) → 9 * U ≤ 10 * v → d ≤ D → k * (v * v) ≤ s → 20 * D ≤ 9 * P * k * 90 → 90 ≤ v → 2 * (U * d) ≤ P * s
 apart-by P U v d s k D h1 h2 h3 h4 h5 =
     from-over (P ∷ U ∷ v ∷ d ∷ s ∷ k ∷ D ∷ []) 9 (lit< tt) (2 * d ⋆ h1 ⊹ 20 * v ⋆ h2 ⊹ 9 * P ⋆ h3 ⊹ v ⋆ h4 ⊹ 9 * P * k * v ⋆ h5) (search read depth 40 fits 20000) refl
 
-module _ (c own kVA uk uR ux : ℕ) (hc : (100 < c) × (c ≤ 110)) (o₀ : 90 ≤ own) (o₁ : own ≤ 462000) (v₀ : 10 ≤ kVA) (v₁ : kVA ≤ 1000000) (k₀ : 100 ≤ uk) (k₁ : uk ≤ 30000) (hr : uR < uk) (hx : ux ≤ uk) (sum : uk ≤ ux + uR) where
+module _ (c own kVA uk uR ux : ℕ) (hc : (100 < c) × (c ≤ 110)) (o₀ : 90 ≤ own) (o₁ : own ≤ 462000) (v₀ : 10 ≤ kVA) (v₁ : kVA ≤ 1000000) (k₀ : 100 ≤ uk) (k₁ : uk ≤ 30000) (hr : uR < uk) (hx : ux ≤ 1000 * uk) (sum : 1000 * uk ≤ ux + 1000 * uR) where
   abbrev body : Point
-  body = times (9500 * c) (1000000 + 6 * ux) (times (own * own) (1000 * kVA) (record { re = uR; im = ux; den = 100000 }))
+  body = correctT c ux (times (own * own) (1000 * kVA) (shortCircuit uR ux))
 
-  large : 100 ≤ uR + ux
+  large : 100000 ≤ 1000 * uR + ux
   large = omega arith
 
-  correct₀ : 9500 * 101 ≤ 9500 * c
+  correct₀ : 9500000 * 101 ≤ 9500000 * c
   correct₀ = omega arith
 
-  correct₁ : 9500 * c ≤ 9500 * 110
+  correct₁ : 9500000 * c ≤ 9500000 * 110
   correct₁ = omega arith
 
-  saturated : 1000000 + 6 * ux ≤ 1180000
+  saturated : 1000000000 + 6 * ux ≤ 1180000000
   saturated = omega arith
 
   rated₁ : 1000 * kVA ≤ 1000 * 1000000
   rated₁ = omega arith
 
-  den-most : 100000 * (1000 * kVA) * (1000000 + 6 * ux) ≤ 100000 * (1000 * 1000000) * 1180000
-  den-most = mul-le-mul (mul-le-mul (le-refl 100000) rated₁) saturated
+  den-most : 100000000 * (1000 * kVA) * (1000000000 + 6 * ux) ≤ 100000000 * (1000 * 1000000) * 1180000000
+  den-most = mul-le-mul (mul-le-mul (le-refl 100000000) rated₁) saturated
 
   body-impedance : Impedance body
   body-impedance = record {
@@ -81,31 +86,31 @@ module _ (c own kVA uk uR ux : ℕ) (hc : (100 < c) × (c ≤ 110)) (o₀ : 90 �
     fine = le-trans den-most (lit≤ tt);
     short =
         from (c ∷ own ∷ kVA ∷ uR ∷ ux ∷ [])
-        (mul-le-mul (mul-le-mul r₁ (mul-le-mul o₁ o₁)) correct₁ ⊹ mul-le-mul (mul-le-mul x₁ (mul-le-mul o₁ o₁)) correct₁ ⊹ 1152921504606846976 * 100000 * 1000 * 1000000 ⋆ v₀)
+        (mul-le-mul (mul-le-mul r₁ (mul-le-mul o₁ o₁)) correct₁ ⊹ mul-le-mul (mul-le-mul x₁ (mul-le-mul o₁ o₁)) correct₁ ⊹ 1152921504606846976 * 100000000 * 1000 * 1000000000 ⋆ v₀)
         (search read depth 40 fits 20000) refl;
   }
     where
-      r₁ : uR ≤ 30000
+      r₁ : 1000 * uR ≤ 30000000
       r₁ = omega arith
 
-      x₁ : ux ≤ 30000
+      x₁ : ux ≤ 30000000
       x₁ = omega arith
 
   -- seen from its own side, and from the parent's side, where v is the rated volts there
   body-least : (U : ℕ) → 9 * U ≤ 10 * own → AtLeast U branchMost body
   body-least U h =
-      apart-by branchMost U own (100000 * (1000 * kVA) * (1000000 + 6 * ux)) _ (100 * (9500 * 101)) (100000 * (1000 * 1000000) * 1180000) h den-most
+      apart-by branchMost U own (100000000 * (1000 * kVA) * (1000000000 + 6 * ux)) _ (100000 * (9500000 * 101)) (100000000 * (1000 * 1000000) * 1180000000) h den-most
       (from (c ∷ own ∷ uR ∷ ux ∷ []) (own * own ⋆ mul-le-mul large correct₀) (search read depth 40 fits 20000) refl) (lit≤ tt) o₀
 
   body-least-above : (U v : ℕ) → 9 * U ≤ 10 * v → 90 ≤ v → AtLeast U branchMost (timesSquare exact v own body)
   body-least-above U v h v₀ =
       from (U ∷ v ∷ c ∷ own ∷ kVA ∷ uR ∷ ux ∷ [])
-      (own * own ⋆ apart-by branchMost U v (100000 * (1000 * kVA) * (1000000 + 6 * ux)) ((uR + ux) * (9500 * c) * (v * v)) (100 * (9500 * 101)) (100000 * (1000 * 1000000) * 1180000) h den-most
+      (own * own ⋆ apart-by branchMost U v (100000000 * (1000 * kVA) * (1000000000 + 6 * ux)) ((1000 * uR + ux) * (9500000 * c) * (v * v)) (100000 * (9500000 * 101)) (100000000 * (1000 * 1000000) * 1180000000) h den-most
       (from (c ∷ v ∷ uR ∷ ux ∷ []) (v * v ⋆ mul-le-mul large correct₀) (search read depth 40 fits 20000) refl) (lit≤ tt) v₀)
       (search read depth 40 fits 20000) refl
 
 module _ (tolerance lower own kVA uk uR : ℕ) (o₀ : 90 ≤ own) (o₁ : own ≤ 462000) (v₀ : 10 ≤ kVA) (v₁ : kVA ≤ 1000000) (k₀ : 100 ≤ uk) (k₁ : uk ≤ 30000) (hr : uR < uk) where
-  sum : uk ≤ uxOf uk uR + uR
+  sum : 1000 * uk ≤ uxOf uk uR + 1000 * uR
   sum = reactance-least uk uR (uxOf uk uR) (ux-next uk uR hr)
 
   pub transformer-impedance : Impedance (transformer tolerance lower own kVA uk uR)

@@ -33,39 +33,42 @@ pub record UnitRange (Un Ur kVA xd ρ low high kVAT uk uR : ℕ) : Type 0 where
   pub uk-most : uk ≤ 30000
   pub uR-most : uR ≤ 30000
 
--- ---- the calculated form, D being |xd − ux|·s
+-- ---- the calculated form, D being |1,000·xd − w|·s
 module _ (c D Un Ur kVA xd ρ low kVAT uR ux : ℕ) where
   reduced-proper : 0 < Ur → 0 < kVA → 0 < kVAT → 0 < reducedUnit c D Un Ur kVA xd ρ low kVAT uR ux .den
   reduced-proper r v t = mul-pos (mul-pos (mul-pos (mul-pos (mul-pos (lit< tt) v) (mul-pos (mul-pos (lit< tt) r) r)) t) (lit< tt)) (omega arith)
 
   -- the generator alone keeps it at Un²/2 ^ 37 ohms
-  reduced-square : 100 < c → 1000000000 + D ≤ 1310000 * xd → kVA ≤ 1000000 → AtLeast (Un * Un) (2 ^ 38) (reducedUnit c D Un Ur kVA xd ρ low kVAT uR ux)
+  reduced-square : 100 < c → 1000000000000 + D ≤ 1310000000 * xd → kVA ≤ 1000000 → AtLeast (Un * Un) (2 ^ 38) (reducedUnit c D Un Ur kVA xd ρ low kVAT uR ux)
   reduced-square hc hD hv =
       from (c ∷ D ∷ Un ∷ Ur ∷ kVA ∷ xd ∷ ρ ∷ low ∷ kVAT ∷ uR ∷ ux ∷ [])
-      (2000 * (Un * Un * kVA * (Ur * Ur) * kVAT) ⋆ hD
-      ⊹ 2000 * 1310000 * (xd * (Un * Un) * (Ur * Ur) * kVAT) ⋆ hv
-      ⊹ 2 ^ 38 * 100 * (xd * (Un * Un) * (Ur * Ur) * kVAT) ⋆ hc)
+      (20 * (Un * Un * kVA * (Ur * Ur) * kVAT) ⋆ hD
+      ⊹ 20 * 1310000000 * (xd * (Un * Un) * (Ur * Ur) * kVAT) ⋆ hv
+      ⊹ 2 ^ 38 * 1000 * (xd * (Un * Un) * (Ur * Ur) * kVAT) ⋆ hc)
       (search read depth 40 fits 20000) refl
 
-  reduced-short : c ≤ 110 → Un ≤ 420000 → 81 ≤ Ur → 10 ≤ kVA → xd ≤ 100000 → ρ ≤ 200 → low ≤ 462000 → 10 ≤ kVAT → uR ≤ 30000 → ux ≤ 30000
+  reduced-short : c ≤ 110 → Un ≤ 420000 → 81 ≤ Ur → 10 ≤ kVA → xd ≤ 100000 → ρ ≤ 200 → low ≤ 462000 → 10 ≤ kVAT → uR ≤ 30000 → ux ≤ 30000000
       → AtMost 1 (2 ^ 60) (reducedUnit c D Un Ur kVA xd ρ low kVAT uR ux)
   reduced-short hc hn hr hv hx hρ hl ht hR hX =
       from (c ∷ D ∷ Un ∷ Ur ∷ kVA ∷ xd ∷ ρ ∷ low ∷ kVAT ∷ uR ∷ ux ∷ [])
-      (kVAT * (Ur * Ur) ⋆ mul-le-mul (mul-le-mul (mul-le-mul (mul-le-mul hρ (le-refl 1)) hx) (mul-le-mul hn hn)) hc
-      ⊹ 100 * kVAT * (Ur * Ur) ⋆ mul-le-mul (mul-le-mul hx (mul-le-mul hn hn)) hc
-      ⊹ 100 * kVA ⋆ mul-le-mul (mul-le-mul (mul-le-mul hR (mul-le-mul hl hl)) (mul-le-mul hn hn)) hc
-      ⊹ 100 * kVA ⋆ mul-le-mul (mul-le-mul (mul-le-mul hX (mul-le-mul hl hl)) (mul-le-mul hn hn)) hc
-      ⊹ 500000000000 * 2 ^ 60 * kVAT * (Ur * Ur) ⋆ hv
-      ⊹ 500000000000 * 2 ^ 60 * kVA ⋆ mul-le-mul ht (mul-le-mul hr hr))
+      (10 * kVAT * (Ur * Ur) ⋆ mul-le-mul (mul-le-mul (mul-le-mul (mul-le-mul hρ (le-refl 1)) hx) (mul-le-mul hn hn)) hc
+      ⊹ 1000 * kVAT * (Ur * Ur) ⋆ mul-le-mul (mul-le-mul hx (mul-le-mul hn hn)) hc
+      ⊹ 1000 * kVA ⋆ mul-le-mul (mul-le-mul (mul-le-mul hR (mul-le-mul hl hl)) (mul-le-mul hn hn)) hc
+      ⊹ kVA ⋆ mul-le-mul (mul-le-mul (mul-le-mul hX (mul-le-mul hl hl)) (mul-le-mul hn hn)) hc
+      ⊹ 5000000000000 * 2 ^ 60 * kVAT * (Ur * Ur) ⋆ hv
+      ⊹ 5000000000000 * 2 ^ 60 * kVA ⋆ mul-le-mul ht (mul-le-mul hr hr))
       (search read depth 40 fits 20000) refl
 
 -- what keeps the square away from 0 keeps the impedance away from it too
 least-of-square : (U : ℕ) (z : Point) → 100 ≤ U → AtLeast (U * U) (2 ^ 38) z → AtLeast U machineMost z
 least-of-square U z h k = from-over (U ∷ z .re ∷ z .im ∷ z .den ∷ []) 100 (lit< tt) (k ⊹ 2 * U * z .den ⋆ h) (search read depth 40 fits 20000) refl
 
+ux-few : (uk uR : ℕ) → uk ≤ 30000 → uxOf uk uR ≤ 30000000
+ux-few uk uR h = omega (arith, ux-most uk uR)
+
 -- ---- the literal form
 module _ (tolerance Un Ur kVA xd ρ powerFactor low high kVAT uk uR : ℕ) (r : UnitRange Un Ur kVA xd ρ low high kVAT uk uR) where
-  proper : 0 < reducedUnit (factorC tolerance Un) (apart xd (uxOf uk uR) * sineOf powerFactor) Un Ur kVA xd ρ low kVAT uR (uxOf uk uR) .den
+  proper : 0 < reducedUnit (factorC tolerance Un) (apart (1000 * xd) (uxOf uk uR) * sineOf powerFactor) Un Ur kVA xd ρ low kVAT uR (uxOf uk uR) .den
   proper = reduced-proper (factorC tolerance Un) _ Un Ur kVA xd ρ low kVAT uR (uxOf uk uR) (le-trans (lit≤ tt) (r .rated)) (le-trans (lit≤ tt) (r .kva)) (le-trans (lit≤ tt) (r .transformer))
 
   pub unit-square : AtLeast (Un * Un) (2 ^ 38) (stationUnit tolerance Un Ur kVA xd ρ powerFactor low high kVAT uk uR)
@@ -77,12 +80,12 @@ module _ (tolerance Un Ur kVA xd ρ powerFactor low high kVAT uk uR : ℕ) (r : 
   short =
       most-same 1 (2 ^ 60) _ _ proper (unit-same tolerance Un Ur kVA xd ρ powerFactor low high kVAT uk uR)
       (reduced-short (factorC tolerance Un) _ Un Ur kVA xd ρ low kVAT uR (uxOf uk uR) (factorC-sized tolerance Un .1) (r .volts-most) (r .rated) (r .kva) (r .xd-most) (r .ratio) (r .low-most) (r .transformer) (r .uR-most)
-      (le-trans (ux-most uk uR) (r .uk-most)))
+      (ux-few uk uR (r .uk-most)))
 
   reactive : 0 < stationUnit tolerance Un Ur kVA xd ρ powerFactor low high kVAT uk uR .im
   unfolding stationUnit
   reactive =
-      mul-pos (more _ _ (mul-pos (mul-pos (mul-pos (mul-pos some-xd (lit< tt)) (mul-pos some-rated some-rated)) (mul-pos (r .high-some) (r .high-some))) (mul-pos (lit< {m = 0} {n = 100000} tt) (mul-pos (lit< {m = 0} {n = 1000} tt) some-power))))
+      mul-pos (more _ _ (mul-pos (mul-pos (mul-pos (mul-pos some-xd (lit< tt)) (mul-pos some-rated some-rated)) (mul-pos (r .high-some) (r .high-some))) (mul-pos (lit< {m = 0} {n = 100000000} tt) (mul-pos (lit< {m = 0} {n = 1000} tt) some-power))))
       (mul-pos (mul-pos (mul-pos some-volts some-volts) (mul-pos (r .low-some) (r .low-some))) (mul-pos (lit< tt) (le-trans (lit≤ tt) (factorC-sized tolerance Un .0))))
     where
       more : (a b : ℕ) → 0 < a → 0 < a + b
