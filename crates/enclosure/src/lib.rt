@@ -82,10 +82,10 @@ pub fn scale(z: Complex, p: u32, q: u32) -> Complex
 pub fn scale_wide(z: Complex, p: u64, q: u64) -> Complex
     ensures { λ r. ⌜ r ≡ scaled (min p (2 ^ 53)) (min q (2 ^ 53)) z ⌝ }
 {
-    let t = amperes::whole(p) / amperes::whole(q);
+    let ratio = amperes::whole(p) / amperes::whole(q);
     Complex {
-        re: z.re * t,
-        im: z.im * t,
+        re: z.re * ratio,
+        im: z.im * ratio,
     }
 }
 
