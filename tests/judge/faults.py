@@ -176,8 +176,8 @@ class TransformerFactorWithHundredth(Network):
 
     def transformer(self, bus):
         r, x, d = super().transformer(bus)
-        ux = self.ux(*bus.branch[3:])
-        return r * (10 * 10**6 + 60 * ux), x * (10 * 10**6 + 60 * ux), d * (10 * 10**6 + 6 * ux)
+        w = self.ux(*bus.branch[3:])
+        return r * (10 * 10**9 + 60 * w), x * (10 * 10**9 + 60 * w), d * (10 * 10**9 + 6 * w)
 
 
 @planted
@@ -211,7 +211,7 @@ class BelowThousandVolts(Network):
 class RootRoundedUp(Network):
     def ux(self, uk, ur):
         root = transformer_ux(uk, ur)
-        return root + (root * root != uk * uk - ur * ur)
+        return root + (root * root != (uk * uk - ur * ur) * 10**6)
 
 
 @planted

@@ -65,7 +65,7 @@ def study_of(draft):
 def worked_factors(tests):
     for power_factor, due in ((100, 0), (90, 4359), (80, 6000), (70, 7142)):
         tests.same(f"sine at {power_factor}", sine(power_factor), due)
-    tests.same("ux", transformer_ux(6000, 1000), 5916)
+    tests.same("ux", transformer_ux(6000, 1000), 5916079)
     for rho, due in ((0, 1000000), (10, 995037), (42, 921982)):
         tests.same(f"f({rho})", f_millionths(rho), due)
     for i, due in ((0, 2000), (1, 1972), (10, 1747), (42, 1298), (229, 1022), (230, 1021)):
@@ -296,8 +296,10 @@ def unit_relations(source, volts):
     """What a unit has to show of the relations between its fields, in words."""
     rated, kva, xd, _, power_factor = source.fields
     low, high, transformer_kva, uk, ur = source.transformer
-    ux = transformer_ux(uk, ur)
-    yield f"xd {('below', 'at', 'above')[(xd > ux) - (xd < ux) + 1]} ux"
+    apart = 1000 * xd - transformer_ux(uk, ur)
+    yield f"xd {('below', 'at', 'above')[(apart > 0) - (apart < 0) + 1]} ux"
+    if 0 < abs(apart) < 1000:
+        yield f"xd next to ux, {'above' if apart > 0 else 'below'}"
     yield f"low volts {('below', 'at', 'above')[(low > high) - (low < high) + 1]} high volts"
     for name, given, against in (("generator volts", rated, low), ("high volts", high, volts)):
         least, greatest = rated_ends(against)
@@ -319,7 +321,7 @@ def drawn_relations(tests, count=400):
             met.update(unit_relations(source, study.buses[source.bus].volts))
             met[f"{study.depth(study.buses[source.bus])[1]} transformers from bus 0"] += 1
     print(f"units of {count} networks drawn: {', '.join(f'{name} {met[name]}' for name in sorted(met))}")
-    tests.same("relations of units", len(met), 3 + 3 + 3 + 3 + 3 + 2 + 2 + 5)
+    tests.same("relations of units", len(met), 3 + 2 + 3 + 3 + 3 + 3 + 2 + 2 + 5)
     tests.true("each of them often", min(met.values()) >= count // 40)
 
 
