@@ -16,7 +16,6 @@ from exact import (
     f_millionths,
     series,
     sine,
-    transformer_ux,
 )
 from judge import Amperes
 from reference import StandIn
@@ -205,13 +204,6 @@ class BelowThousandVolts(Network):
 
     def c(self, volts):
         return 110 if volts == 1000 else c_hundredths(volts, self.tolerance)
-
-
-@planted
-class RootRoundedUp(Network):
-    def ux(self, uk, ur):
-        root = transformer_ux(uk, ur)
-        return root + (root * root != (uk * uk - ur * ur) * 10**6)
 
 
 @planted
