@@ -81,15 +81,21 @@ static struct point split(double z, double rho)
     return (struct point){x * rho / 100, x};
 }
 
+/* In millionths of a percent, rounded down; uk and uR are in thousandths. */
+static double reactance(double uk, double ur)
+{
+    return floor(sqrt((uk * uk - ur * ur) * 1e6));
+}
+
 static struct point branch_impedance(const struct study *s, int b)
 {
     const double *f = s->of_branch[b];
     if (s->branch[b] == 1)
         return times((struct point){f[0], f[1]}, f[2] / (f[3] * 1e6));
-    double ux = floor(sqrt(f[3] * f[3] - f[4] * f[4]));
+    double ux = reactance(f[3], f[4]);
     double c = factor_c(s, fmin(s->volts[b], s->volts[s->parent[b]]));
-    double k = 0.95 * c / (1 + 0.6 * ux / 1e5);
-    return times((struct point){f[4], ux}, k / 1e5 * f[1] * f[1] / (1000 * f[2]));
+    double k = 0.95 * c / (1 + 0.6 * ux / 1e8);
+    return times((struct point){1000 * f[4], ux}, k / 1e8 * f[1] * f[1] / (1000 * f[2]));
 }
 
 static double sine_of(double power_factor)
@@ -100,10 +106,10 @@ static double sine_of(double power_factor)
 /* A generator and its own transformer, f its fields, at a bus of these volts. */
 static struct point unit_impedance(const double *f, double volts, double c)
 {
-    double ux = floor(sqrt(f[8] * f[8] - f[9] * f[9])), t = f[6] / f[5], k = volts / (f[0] * t);
+    double ux = reactance(f[8], f[9]), t = f[6] / f[5], k = volts / (f[0] * t);
     double x = t * t * f[2] / 1e5 * f[0] * f[0] / (1000 * f[1]);
-    struct point generator = {x * f[3] / 100, x}, transformer = times((struct point){f[9], ux}, f[6] * f[6] / (1e8 * f[7]));
-    return times(plus(generator, transformer), k * k * c / (1 + fabs(f[2] - ux) / 1e5 * sine_of(f[4])));
+    struct point generator = {x * f[3] / 100, x}, transformer = times((struct point){1000 * f[9], ux}, f[6] * f[6] / (1e11 * f[7]));
+    return times(plus(generator, transformer), k * k * c / (1 + fabs(1000 * f[2] - ux) / 1e8 * sine_of(f[4])));
 }
 
 static struct point machine_impedance(const struct study *s, int j)

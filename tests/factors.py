@@ -1,4 +1,5 @@
-"""Document 01, "Factors", anew by whole numbers and fractions: what check-factors and check-impedances compare with."""
+"""Document 01, "Factors", with order 6's reactance, anew by whole numbers and fractions: what check-factors and check-impedances
+compare with."""
 from fractions import Fraction
 from functools import lru_cache
 from math import factorial, isqrt
@@ -18,8 +19,8 @@ def sine(p):
 
 
 def ux(uk, ur):
-    """The greatest whole number with ux^2 <= uk^2 - uR^2."""
-    return isqrt(uk * uk - ur * ur)
+    """In millionths of a percent, the greatest w with w^2 <= (uk^2 - uR^2) 10^6."""
+    return isqrt((uk * uk - ur * ur) * 10**6)
 
 
 @lru_cache(None)

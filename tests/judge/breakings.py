@@ -323,6 +323,26 @@ def fixed_breakings():
     return found + [every_tenth(step) for step in (0, 1)]
 
 
+def low_breakings():
+    """Order 6: q of a unit, and of a generator behind a transformer, above 2 and next below it by
+    a reactance in millionths of a percent; in thousandths it would be above 2 both times."""
+    found = []
+    for ur, kva, of_unit, of_generator in ((99, 2000, 16352, 20599), (1, 3000, 20000, 21517)):
+        for step in (0, 1):
+            plan = made(f"q next to 2, unit of uR {ur}, xd {of_unit + step}", 10000)
+            plan.draft.feeder(1000, 0)
+            machine = 10000, 900000, of_unit + step, 0, 100
+            plan.draft.unit(0, machine, (10000, 10000, kva, 100, ur))
+            found.append(plan)
+        for step in (0, 1):
+            plan = made(f"q next to 2 behind a transformer of uR {ur}, xd {of_generator + step}", 10000, 10)
+            plan.draft.feeder(1000, 0)
+            plan.draft.transformer(0, 400, (10000, 400), kva, 100, ur)
+            plan.draft.generator(1, 400, 900000, of_generator + step, 0, 100)
+            found.append(plan)
+    return found
+
+
 def breaking_calls(plan):
     """The network read, then all that is asked of it."""
     draft = plan.draft

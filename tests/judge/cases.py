@@ -9,12 +9,14 @@ from typing import NamedTuple, Optional
 
 from accept import Study
 from breakings import BROKEN, breaking_calls, breakings, drawn_breakings, fixed_breakings
+from breakings import low_breakings
 from calls import FIXED, as_calls, at_once, drawn_calls, line_of, queries, states
 from check import Checker
 from fixed import fixed_networks
 from judge import Amperes
 from networks import any_network, border_ratings, with_more_converters, with_ratings
 from networks import without_converters, write_file
+from reactance_networks import fixed_reactance_networks, low_impedances
 from refusals import near_misses
 from texts import greatest_numbers, meant_texts, spoil, truncations
 from unit_networks import with_units
@@ -130,7 +132,15 @@ def fixed_units():
     for i, (name, draft) in enumerate(fixed_networks()):
         small = len(draft.buses) <= 3 and not name.startswith("feeder")
         plans.append(network_plan(name, draft, i, 21 if small else 1, i % 4 == 0 or small))
-    return units + [Unit([], part) for part in chunks(plans, 8)]
+    return units + [Unit([], part) for part in chunks(plans, 8)] + reactance_units()
+
+
+def reactance_units():
+    """Order 6: networks of low impedances, and breaking currents that hang on them."""
+    drafts = fixed_reactance_networks()
+    plans = [network_plan(name, draft, i, 1, True) for i, (name, draft) in enumerate(drafts)]
+    breakings = [breaking_case(plan) for plan in low_breakings()]
+    return [*(Unit([], part) for part in chunks(plans, 3)), Unit(breakings)]
 
 
 def breaking_units():
@@ -147,6 +157,7 @@ def breaking_case(plan):
 
 # How many of a kind are drawn for one unit of work
 DRAWN_TOGETHER = {"networks": 8, "bytes": 100, "calls": 20, "writes": 20, "breakings": 10, "units": 8}
+DRAWN_TOGETHER |= {"reactances": 8}
 
 
 def drawn_units(seed, counts):
@@ -169,8 +180,9 @@ def drawn_unit(kind, seed, places):
     if kind == "writes":
         return Unit([], writings=[drawn_writing(name, rng) for name, _, rng in draws])
     if kind == "units":
-        plans = [drawn_unit_plan(name, rng) for name, _, rng in draws]
-        return Unit([by_calls(plan) for plan in plans], plans)
+        return with_calls([drawn_unit_plan(name, rng) for name, _, rng in draws])
+    if kind == "reactances":
+        return with_calls([drawn_low_plan(name, rng) for name, _, rng in draws])
     return text_unit([(name, spoiled_file(n, rng)) for name, n, rng in draws], 0, 20)
 
 
@@ -196,6 +208,16 @@ def drawn_unit_plan(name, rng):
     """A network with power station units: its file for both programs."""
     family, draft = with_units(rng)
     return network_plan(f"{name}, {family}", draft, rng.randrange(1000), 1, True)
+
+
+def drawn_low_plan(name, rng):
+    """A network of low impedances, likewise."""
+    return network_plan(name, low_impedances(rng), rng.randrange(1000), 1, True)
+
+
+def with_calls(plans):
+    """Networks for both programs, by their files and call by call."""
+    return Unit([by_calls(plan) for plan in plans], plans)
 
 
 def by_calls(plan):

@@ -1,8 +1,8 @@
 """Exact values of a network: factors, impedances, seen impedance, currents.
 
-Written from document 01 and order 5 of document 02 alone.  Every value is a
-whole number or a ratio of whole numbers; nothing here is rounded except the
-enclosure of T(y) in `kappa_bounds`, which is rounded outwards.
+Written from document 01 and orders 5 and 6 of document 02 alone.  Every value
+is a whole number or a ratio of whole numbers; nothing here is rounded except
+the enclosure of T(y) in `kappa_bounds`, which is rounded outwards.
 
 An admittance is kept as a ratio (p + jq)/(r + js) of complex whole numbers.
 Turning it over exchanges the two, and a sum or a branch in series adds the
@@ -86,7 +86,8 @@ def sine(power_factor):
 
 
 def transformer_ux(uk, ur):
-    return isqrt(uk * uk - ur * ur)
+    """Greatest w with w² ≤ (uk² − uR²)·10⁶: in millionths of a percent, uk and uR in thousandths."""
+    return isqrt((uk * uk - ur * ur) * 10**6)
 
 
 def f_millionths(rho):
@@ -228,12 +229,13 @@ class Network:
         return r * metres, x * metres, circuits * 10**6
 
     def transformer(self, bus):
-        """Own side.  0.95·(c/100)/(1 + 0.6·ux/10⁵) is 9,500·c/(10⁶ + 6·ux)."""
+        """Own side.  0.95·(c/100)/(1 + 0.6·w/10⁸) is 9,500·c·10³/(10⁹ + 6·w), and uR/10⁵ is
+        10³·uR/10⁸."""
         _, own, kva, uk, ur = bus.branch
-        ux = self.ux(uk, ur)
+        w = self.ux(uk, ur)
         c = self.c(min(bus.volts, self.buses[bus.parent].volts))
         scale = 9500 * c * own * own
-        return scale * ur, scale * ux, (10**6 + 6 * ux) * 10**8 * kva
+        return scale * 1000 * ur, scale * w, (10**9 + 6 * w) * 10**8 * kva
 
     def feeder(self, source):
         kva, rho = source.fields[:2]
@@ -261,13 +263,13 @@ class Network:
         return tuple(part // common for part in z)
 
     def unit_factor(self, source):
-        """K_S = Un²/Ur²·low²/high²·c/(1 + |xd − xT|·sin), xd and xT in 10⁵ths and sin in 10⁴ths."""
+        """K_S = Un²/Ur²·low²/high²·c/(1 + |xd − xT|·sin), xd in 10⁵ths, xT in 10⁸ths, sin in 10⁴ths."""
         rated, _, xd, _, power_factor = source.fields
         low, high, _, uk, ur = source.transformer
         volts = self.buses[source.bus].volts
-        apart = abs(xd - self.ux(uk, ur)) * sine(power_factor)
-        top = (volts * low) ** 2 * self.c(volts) * 10**7
-        return top, (rated * high) ** 2 * (10**9 + apart)
+        apart = abs(1000 * xd - self.ux(uk, ur)) * sine(power_factor)
+        top = (volts * low) ** 2 * self.c(volts) * 10**10
+        return top, (rated * high) ** 2 * (10**12 + apart)
 
     def unit_generator(self, source):
         """t²·Z_G: the generator without K_G, from the low side to the high one."""
@@ -279,7 +281,7 @@ class Network:
     def unit_transformer(self, source):
         """Z_T on the high side, without K_T."""
         _, high, kva, uk, ur = source.transformer
-        return high**2 * ur, high**2 * self.ux(uk, ur), 10**8 * kva
+        return high**2 * 1000 * ur, high**2 * self.ux(uk, ur), 10**11 * kva
 
     def split(self, top, bottom, rho):
         """Z = top/bottom ohms parted into R and X by f."""

@@ -16,7 +16,6 @@ from exact import (
     f_millionths,
     series,
     sine,
-    transformer_ux,
 )
 from judge import Amperes
 from reference import StandIn
@@ -176,8 +175,8 @@ class TransformerFactorWithHundredth(Network):
 
     def transformer(self, bus):
         r, x, d = super().transformer(bus)
-        ux = self.ux(*bus.branch[3:])
-        return r * (10 * 10**6 + 60 * ux), x * (10 * 10**6 + 60 * ux), d * (10 * 10**6 + 6 * ux)
+        w = self.ux(*bus.branch[3:])
+        return r * (10 * 10**9 + 60 * w), x * (10 * 10**9 + 60 * w), d * (10 * 10**9 + 6 * w)
 
 
 @planted
@@ -205,13 +204,6 @@ class BelowThousandVolts(Network):
 
     def c(self, volts):
         return 110 if volts == 1000 else c_hundredths(volts, self.tolerance)
-
-
-@planted
-class RootRoundedUp(Network):
-    def ux(self, uk, ur):
-        root = transformer_ux(uk, ur)
-        return root + (root * root != uk * uk - ur * ur)
 
 
 @planted

@@ -1,4 +1,4 @@
-"""Document 01 and orders 3 and 5 once more, as plainly as they are written: fractions and recursion.
+"""Document 01 and orders 3, 5 and 6 once more, as plainly as they are written: fractions and recursion.
 
 The fractions are far too slow for large networks.  The self-test compares
 them with exact.py on small ones, and the same recursion in floating point on
@@ -32,21 +32,26 @@ def sine(p):
     return F(least(lambda s: s * s >= 10**8 - 10**4 * p * p), 10000)
 
 
-@lru_cache(None)
-def ux(uk, ur):
-    return greatest(lambda n: n * n <= uk * uk - ur * ur)
-
-
-def f(rho):
-    """By halving, since a million steps for each source would take too long."""
-    low, high = 0, 10**6 + 1
+def greatest_below(high, holds):
+    """The greatest by halving, since millions of steps for each record would take too long."""
+    low = 0
     while high - low > 1:
         middle = (low + high) // 2
-        if middle**2 * (10000 + rho**2) <= 10**16:
+        if holds(middle):
             low = middle
         else:
             high = middle
     return low
+
+
+@lru_cache(None)
+def ux(uk, ur):
+    """As a fraction of 1, from millionths of a percent."""
+    return F(greatest_below(1000 * uk + 1, lambda w: w * w <= (uk * uk - ur * ur) * 10**6), 10**8)
+
+
+def f(rho):
+    return greatest_below(10**6 + 1, lambda n: n**2 * (10000 + rho**2) <= 10**16)
 
 
 def series(y):
@@ -104,8 +109,8 @@ class PlainNetwork:
             _, own, kva, uk, ur = bus.branch
             x = ux(uk, ur)
             lower = min(bus.volts, self.buses[bus.parent].volts)
-            k_t = F(95, 100) * self.c(lower) / (1 + F(6, 10) * x / 100000)
-            return Complex(ur, x).times(k_t / 100000 * F(own**2, 1000 * kva))
+            k_t = F(95, 100) * self.c(lower) / (1 + F(6, 10) * x)
+            return Complex(F(ur, 100000), x).times(k_t * F(own**2, 1000 * kva))
         r, x, metres, circuits, _ = bus.branch
         return Complex(r, x).times(F(metres, circuits * 10**6))
 
@@ -116,8 +121,8 @@ class PlainNetwork:
         volts = self.buses[source.bus].volts
         x = F(xd, 100000) * F(rated**2, 1000 * kva)
         z_g = Complex(x * F(rho, 100), x)
-        z_t = Complex(ur, ux(uk, ur)).times(F(high**2, 100000 * 1000 * transformer_kva))
-        apart = abs(F(xd, 100000) - F(ux(uk, ur), 100000))
+        z_t = Complex(F(ur, 100000), ux(uk, ur)).times(F(high**2, 1000 * transformer_kva))
+        apart = abs(F(xd, 100000) - ux(uk, ur))
         k_s = F(volts, rated) ** 2 * F(low, high) ** 2 * self.c(volts) / (1 + apart * sine(power_factor))
         return (z_g.times(F(high, low) ** 2) + z_t).times(k_s)
 

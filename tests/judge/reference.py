@@ -6,7 +6,7 @@ python3 tests/judge/reference.py console
 It serves to test run.py.  Bounds are the whole numbers next to the exact
 parts and shares, peaks come from sixteen steps between the entries of the peak
 table, a breaking figure is the least whole number not below its sum.  --fault
-plants one of faults.py, breaking_faults.py or unit_faults.py.
+plants one of faults.py, breaking_faults.py, unit_faults.py or reactance_faults.py.
 """
 
 import argparse
@@ -214,9 +214,11 @@ class InProcess:
 def main():
     from breaking_faults import BREAKING_FAULTS
     from faults import FAULTS
+    from reactance_faults import REACTANCE_BREAKING_FAULTS, REACTANCE_FAULTS
     from unit_faults import UNIT_BREAKING_FAULTS, UNIT_FAULTS
 
     faults = FAULTS | BREAKING_FAULTS | UNIT_FAULTS | UNIT_BREAKING_FAULTS
+    faults |= REACTANCE_FAULTS | REACTANCE_BREAKING_FAULTS
     parser = argparse.ArgumentParser(description=__doc__.splitlines()[0])
     parser.add_argument("role", choices=["program", "console"])
     parser.add_argument("--fault", choices=sorted(faults))

@@ -2,11 +2,13 @@
 
 python3 tests/judge/run.py --program target/bin/noldveig --console target/bin/console
     --seed 1 --networks 200 --bytes 500 --calls 100 --writes 100 --breakings 100 --units 100
+    --reactances 100
 
 The fixed set always runs; the seed adds drawn networks, broken texts, lists of
 calls, studies that are written, read back and written again, networks asked for
-breaking currents, and networks with power station units.  Give an empty --program
-or --console to leave that one out.
+breaking currents, networks with power station units, and networks whose
+transformers have a low impedance.  Give an empty --program or --console to leave
+that one out.
 """
 
 import argparse
@@ -129,6 +131,7 @@ def main(arguments=None):
     parser.add_argument("--writes", type=int, default=60)
     parser.add_argument("--breakings", type=int, default=60)
     parser.add_argument("--units", type=int, default=60)
+    parser.add_argument("--reactances", type=int, default=60)
     parser.add_argument("--jobs", type=int, default=1)
     options = parser.parse_args(arguments)
     for command in (options.program, options.console):

@@ -16,21 +16,25 @@ from random import Random
 from accept import BUSES_BEFORE, DELAYS, SOURCES_BEFORE, Study, StudyBefore
 from breaking import BreakingJudge
 from breaking_faults import BREAKING_FAULTS
-from breakings import BROKEN, drawn_breakings, every_tenth, fixed_breakings, tuned
+from breakings import BROKEN, drawn_breakings, every_tenth, fixed_breakings, low_breakings, tuned
 from calls import as_calls, carried_out, drawn_calls, line_of
-from cases import Unit, breaking_case, breaking_units, drawn_unit, fixed_units, run_unit
+from cases import Unit, breaking_case, breaking_units, drawn_unit, fixed_units, reactance_units
+from cases import run_unit
 from confirm import Printed, confirmed
-from exact import CONVERTER, GENERATOR, UNIT
-from exact import f_millionths, peak_thousandths, series, sine, transformer_ux
+from exact import CONVERTER, GENERATOR, TRANSFORMER, UNIT
+from exact import Network, f_millionths, peak_thousandths, series, sine, transformer_ux
 from faults import FAULTS
 from fixed import fixed_networks, table_steps
 from judge import Amperes, Bench, peak_reasons, verdict
 from networks import FAMILIES, any_network, crowd, full_tree, random_tree, rated_ends
 from plain import PlainNetwork, table_factor
+from plain import ux as plain_ux
+from reactance_faults import REACTANCE_BREAKING_FAULTS, REACTANCE_FAULTS, ThousandthsAgain
+from reactance_networks import fixed_reactance_networks, low_impedances
 from reference import InProcess, StandIn
 from refusals import BASE, chain_rows, filled, lone_bus, near_misses
 from run import Commands
-from shares import TABLES, RootSum, Square, compare_roots
+from shares import TABLES, RootSum, Shares, Square, compare_roots
 from texts import meant_texts, spoil
 from unit_faults import UNIT_BREAKING_FAULTS, UNIT_FAULTS
 from unit_networks import UNIT_FAMILIES, fixed_unit_networks, with_units
@@ -65,7 +69,7 @@ def study_of(draft):
 def worked_factors(tests):
     for power_factor, due in ((100, 0), (90, 4359), (80, 6000), (70, 7142)):
         tests.same(f"sine at {power_factor}", sine(power_factor), due)
-    tests.same("ux", transformer_ux(6000, 1000), 5916)
+    tests.same("ux", transformer_ux(6000, 1000), 5916079)
     for rho, due in ((0, 1000000), (10, 995037), (42, 921982)):
         tests.same(f"f({rho})", f_millionths(rho), due)
     for i, due in ((0, 2000), (1, 1972), (10, 1747), (42, 1298), (229, 1022), (230, 1021)):
@@ -128,6 +132,39 @@ def worked_units(tests):
         tests.same(f"{name}: plain Z of source {place}", (z.re, z.im), (r, x))
 
 
+def worked_reactances(tests):
+    """Order 6 by hand.  Of 6,000 and 1,000 w/10⁸ is 0.05916079.  The transformer has 400² V² over
+    160 kVA, or 1 Ω, and 0.95·1.1 in K_T; the units have 1 Ω on both sides, and K_S is 1.1 over
+    1 + |xd − 0.05916079|·0.6."""
+    name, draft = fixed_reactance_networks()[0]
+    study = study_of(draft)
+    plain = PlainNetwork(10, study.buses, study.sources)
+    k_t = Fraction("1.045") / Fraction("1.035496474")
+    cases = [("transformer", study.network().branch(1), plain.branch(1), k_t, 0)]
+    units = (1, "0.2", "0.14083921"), (2, "0.05916", "0.00000079"), (3, "0.05917", "0.00000921")
+    for place, xd, apart in units:
+        source = study.sources[place]
+        k_s = Fraction("1.1") / (1 + Fraction(apart) * Fraction("0.6"))
+        machine = study.network().machine(source), plain.machine(source)
+        cases.append((f"source {place}", *machine, k_s, Fraction(xd)))
+    for what, (a, b, d), z, k, xd in cases:
+        due = k * Fraction("0.01"), k * (xd + Fraction("0.05916079"))
+        tests.same(f"{name}: Z of {what}", (Fraction(a, d), Fraction(b, d)), due)
+        tests.same(f"{name}: plain Z of {what}", (z.re, z.im), due)
+
+
+def every_reactance(tests):
+    """The root by its own words and by the plain rule, and that document 01's is its thousandths."""
+    wrong = []
+    for uk in [*range(100, 301), *range(500, 30001, 500), 12345, 29999]:
+        for ur in {0, 1, uk // 3, 3 * uk // 5, 7 * uk // 8, uk - 2, uk - 1, *range(uk - 1)[::997]}:
+            square, w = uk * uk - ur * ur, transformer_ux(uk, ur)
+            right = w * w <= square * 10**6 < (w + 1) ** 2
+            if not right or plain_ux(uk, ur) != Fraction(w, 10**8) or w // 1000 != isqrt(square):
+                wrong.append((uk, ur))
+    tests.same("reactances", wrong, [])
+
+
 def rows_of_seven(tests, count=60):
     """A row of seven numbers is read as if filled with zeros."""
     for n in range(count):
@@ -176,11 +213,13 @@ def full_tables(tests, study):
 
 
 def small_networks(count):
-    """Small networks of the fixed set, drawn ones without units and with them."""
+    """Small networks of the fixed set, drawn ones without units and with them, and of low impedances."""
     drafts = [("fixed", draft) for _, draft in fixed_networks() if len(draft.buses) <= 4][:20]
-    drafts += [(name, draft) for name, draft in fixed_unit_networks() if len(draft.buses) <= 8]
+    fixed = fixed_unit_networks() + fixed_reactance_networks()
+    drafts += [(name, draft) for name, draft in fixed if len(draft.buses) <= 8 and draft.sources <= 30]
     for n in range(count // 3):
         drafts.append((f"units {n}", small_with_units(Random(f"units {n}"))))
+        drafts.append((f"low impedances {n}", small_low(Random(f"low {n}"))))
     for n in range(count):
         rng = Random(n)
         name, draft = any_network(rng)
@@ -194,6 +233,13 @@ def small_with_units(rng):
     draft = with_units(rng)[1]
     while len(draft.buses) > 7 or draft.sources > 9:
         draft = with_units(rng)[1]
+    return draft
+
+
+def small_low(rng):
+    draft = low_impedances(rng)
+    while len(draft.buses) > 6 or draft.sources > 6:
+        draft = low_impedances(rng)
     return draft
 
 
@@ -220,7 +266,8 @@ def against_plain(tests, count=60):
 
 def against_floats(tests):
     """Large networks against the plain recursion in floating point, some buses of each."""
-    for n, family in enumerate(family for family in FAMILIES + UNIT_FAMILIES for _ in range(3)):
+    families = [*FAMILIES, *UNIT_FAMILIES, low_impedances]
+    for n, family in enumerate(family for family in families for _ in range(3)):
         study = study_of(family(Random(n)))
         plain = PlainNetwork(study.tolerance, study.buses, study.sources)
         judges = BENCH.judges(study.network())
@@ -296,8 +343,10 @@ def unit_relations(source, volts):
     """What a unit has to show of the relations between its fields, in words."""
     rated, kva, xd, _, power_factor = source.fields
     low, high, transformer_kva, uk, ur = source.transformer
-    ux = transformer_ux(uk, ur)
-    yield f"xd {('below', 'at', 'above')[(xd > ux) - (xd < ux) + 1]} ux"
+    apart = 1000 * xd - transformer_ux(uk, ur)
+    yield f"xd {('below', 'at', 'above')[(apart > 0) - (apart < 0) + 1]} ux"
+    if 0 < abs(apart) < 1000:
+        yield f"xd next to ux, {'above' if apart > 0 else 'below'}"
     yield f"low volts {('below', 'at', 'above')[(low > high) - (low < high) + 1]} high volts"
     for name, given, against in (("generator volts", rated, low), ("high volts", high, volts)):
         least, greatest = rated_ends(against)
@@ -319,8 +368,49 @@ def drawn_relations(tests, count=400):
             met.update(unit_relations(source, study.buses[source.bus].volts))
             met[f"{study.depth(study.buses[source.bus])[1]} transformers from bus 0"] += 1
     print(f"units of {count} networks drawn: {', '.join(f'{name} {met[name]}' for name in sorted(met))}")
-    tests.same("relations of units", len(met), 3 + 3 + 3 + 3 + 3 + 2 + 2 + 5)
+    tests.same("relations of units", len(met), 3 + 2 + 3 + 3 + 3 + 3 + 2 + 2 + 5)
     tests.true("each of them often", min(met.values()) >= count // 40)
+
+
+def low_relations(study):
+    """What the networks of low impedances have to show, in words."""
+    pairs = [(bus.fourth, bus.fifth, "bus", bus.volts) for bus in study.buses if bus.kind == TRANSFORMER]
+    units = [source for source in study.sources if source.kind == UNIT]
+    pairs += [(source.uk, source.ur, "unit", study.buses[source.bus].volts) for source in units]
+    for uk, ur, what, volts in pairs:
+        level = "up to 1,000 V" if volts <= 1000 else "up to 50 kV" if volts <= 50000 else "above 50 kV"
+        if uk <= 300:
+            yield f"uk 100 to 300 of a {what}"
+            yield f"uk 100 to 300, {level}"
+            yield f"uk 100 to 300, uR {'next to uk' if ur >= uk - 6 else 'next to 0' if ur < 10 else 'between'}"
+        if ur > 0:
+            between = transformer_ux(uk, ur) % 1000
+            yield f"ux {'between two' if between else 'a whole number of'} thousandths, of a {what}"
+    for source in units:
+        apart = 1000 * source.third - transformer_ux(source.uk, source.ur)
+        if abs(apart) < 1000 and source.ur > 0:
+            yield f"xd {('next below', 'at', 'next above')[(apart > 0) - (apart < 0) + 1]} ux, uR above 0"
+
+
+def drawn_reactances(tests, count=300):
+    """Each of these is drawn as a matter of course, and in most networks a reactance in thousandths
+    would be seen: some bus's exact current is then not between the whole amperes that are due."""
+    met, told = Counter(), 0
+    for n in range(count):
+        study = study_of(low_impedances(Random(f"reactances {n}")))
+        met.update(low_relations(study))
+        before = ThousandthsAgain(study.tolerance, study.buses, study.sources).machine_values()
+        judges = BENCH.judges(study.network())
+        told += any(
+            judge.machines.floor() ** 2 * values.square_bottom > values.square_top
+            or judge.machines.ceiling() ** 2 * values.square_bottom < values.square_top
+            for judge, values in zip(judges, before)
+        )
+    print(f"{count} networks of low impedances: {', '.join(f'{name} {met[name]}' for name in sorted(met))}")
+    print(f"in {told} of them a reactance in thousandths is seen")
+    tests.same("relations of low impedances", len(met), 2 + 3 + 3 + 4 + 3)
+    tests.true("each of them often enough", min(met.values()) >= count // 40)
+    tests.true("thousandths are seen in three of four", 4 * told >= 3 * count)
 
 
 BASE_TEXT = (
@@ -523,6 +613,7 @@ def shares_against_plain(tests, count=40):
     for n in range(count):
         rng = Random(f"shares {n}")
         draft = random_tree(rng, rng.randint(1, 6), rng.randint(1, 8)) if n % 2 else small_with_units(rng)
+        draft = small_low(rng) if n % 8 == 0 else draft
         study = study_of(draft)
         plain = PlainNetwork(study.tolerance, study.buses, study.sources)
         for b in range(len(study.buses)):
@@ -542,7 +633,7 @@ def shares_against_plain(tests, count=40):
 
 def shares_against_floats(tests):
     """Large networks by voltages in floating point, some machines at some buses."""
-    for n, family in enumerate(FAMILIES + UNIT_FAMILIES):
+    for n, family in enumerate([*FAMILIES, *UNIT_FAMILIES, low_impedances]):
         study = study_of(family(Random(f"floats {n}")))
         plain = PlainNetwork(study.tolerance, study.buses, study.sources)
         for b in {0, len(study.buses) - 1}:
@@ -596,7 +687,7 @@ def floats_accepted(tests):
     """A calculation that shares nothing with the judge is not blamed."""
     small = [plan for plan in fixed_breakings() if len(plan.draft.buses) <= 40 >= plan.draft.sources]
     units = [breaking_units()[0], Unit([breaking_case(plan) for plan in small])]
-    units.append(drawn_unit("breakings", 3, range(25)))
+    units += [reactance_units()[-1], drawn_unit("breakings", 3, range(25))]
     for unit in units:
         outcome = run_unit(InProcess(InFloats), unit, BENCH)
         for failure in outcome.failures:
@@ -613,6 +704,18 @@ def two_reached(tests):
         place = next(i for i, source in enumerate(study.sources) if source.kind in GENERATORS)
         signs.append(breaking_judge(study, 0).shares[place].q_square.compare(4))
     tests.same("q about 2", signs, [-1, 0, 1] * 10)
+
+
+def two_by_millionths(tests):
+    """Of each two plans with q next to 2 the first is above and the second below; with a reactance
+    in thousandths both would be above."""
+    signs, before = [], []
+    for plan in low_breakings():
+        study = study_of(plan.draft)
+        for kind, found in ((Network, signs), (ThousandthsAgain, before)):
+            shares = Shares(kind(study.tolerance, study.buses, study.sources)).at(0)
+            found.append(shares[1].q_square.compare(4))
+    tests.same("q next to 2", (signs, before), ([-1, 1] * 4, [-1] * 8))
 
 
 def sums_of_roots(tests):
@@ -746,7 +849,7 @@ def by_processes(tests):
     here = __file__.rpartition("/")[0] or "."
     commands = [f"{sys.executable} {here}/reference.py {role}" for role in ("program", "console")]
     units = fixed_units()
-    drawn = ("writes", 2, range(3)), ("breakings", 2, range(3)), ("units", 2, range(3))
+    drawn = [(kind, 2, range(3)) for kind in ("writes", "breakings", "units", "reactances")]
     for unit in (*units[:3], units[5], units[-1], *breaking_units()[:2], *drawn):
         outcome = run_unit(Commands(*commands), unit, BENCH)
         tests.true("stand-in by processes", outcome.passed and not outcome.failures)
@@ -762,6 +865,7 @@ def planted_faults(tests):
     drawn.append(drawn_unit("writes", 1, range(20)))
     drawn.append(drawn_unit("breakings", 1, range(20)))
     drawn.append(drawn_unit("units", 1, range(20)))
+    drawn.append(drawn_unit("reactances", 1, range(20)))
     refused, failing = set(), set()
     for unit in units + drawn:
         outcome = run_unit(InProcess(StandIn), unit, BENCH)
@@ -773,6 +877,9 @@ def planted_faults(tests):
     breakings = breaking_units()
     tried = [(*fault, units) for fault in (FAULTS | UNIT_FAULTS).items()]
     tried += [(*fault, breakings) for fault in (BREAKING_FAULTS | UNIT_BREAKING_FAULTS).items()]
+    low = reactance_units()
+    tried += [(*fault, low) for fault in REACTANCE_FAULTS.items()]
+    tried += [(*fault, low[-1:]) for fault in REACTANCE_BREAKING_FAULTS.items()]
     for name, stand_in, among in tried:
         found = None
         for unit in among:
@@ -792,6 +899,8 @@ def main():
     worked_factors(tests)
     worked_networks(tests)
     worked_units(tests)
+    worked_reactances(tests)
+    every_reactance(tests)
     rows_of_seven(tests)
     worked_grounds(tests)
     against_plain(tests)
@@ -800,6 +909,7 @@ def main():
     editions(tests)
     drawn_sizes(tests)
     drawn_relations(tests)
+    drawn_reactances(tests)
     written_by_hand(tests)
     written_and_read(tests)
     answers_told_apart(tests)
@@ -813,6 +923,7 @@ def main():
     shares_against_floats(tests)
     floats_accepted(tests)
     two_reached(tests)
+    two_by_millionths(tests)
     sums_of_roots(tests)
     squares_compared(tests)
     breaking_borders(tests)

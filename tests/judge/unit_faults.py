@@ -32,12 +32,12 @@ def volts_of(holder, source):
 
 
 def apart_by(apart):
-    """K_S with another number, of xd and ux, for |xd − xT|."""
+    """K_S with another number, of xd and ux in millionths of a percent, for |xd − xT|."""
 
     def ratio(network, source):
-        xd, s = source.third, sine(source.fifth)
+        xd, s = 1000 * source.third, sine(source.fifth)
         ux = network.ux(source.uk, source.ur)
-        return 10**9 + abs(xd - ux) * s, 10**9 + apart(xd, ux) * s
+        return 10**12 + abs(xd - ux) * s, 10**12 + apart(xd, ux) * s
 
     return factor_times(ratio)
 
@@ -76,10 +76,10 @@ class UnitWithoutSine(apart_by(lambda xd, ux: 0)):
 class UnitSineRoundedDown(Network):
     def unit_factor(self, source):
         top, bottom = super().unit_factor(source)
-        apart = abs(source.third - self.ux(source.uk, source.ur))
+        apart = abs(1000 * source.third - self.ux(source.uk, source.ur))
         s = sine(source.fifth)
         lower = s - (s * s != 10**8 - 10**4 * source.fifth**2)
-        return top * (10**9 + apart * s), bottom * (10**9 + apart * lower)
+        return top * (10**12 + apart * s), bottom * (10**12 + apart * lower)
 
 
 @planted
@@ -172,8 +172,8 @@ class UnitTransformerFactorLeftIn(Network):
 
     def unit_transformer(self, source):
         r, x, d = super().unit_transformer(source)
-        c, ux = self.c(volts_of(self, source)), self.ux(source.uk, source.ur)
-        return r * 9500 * c, x * 9500 * c, d * (10**6 + 6 * ux)
+        c, w = self.c(volts_of(self, source)), self.ux(source.uk, source.ur)
+        return r * 9500 * 1000 * c, x * 9500 * 1000 * c, d * (10**9 + 6 * w)
 
 
 @planted
@@ -213,7 +213,7 @@ class UnitTransformerOfWholeImpedance(Network):
 
     def unit_transformer(self, source):
         r, _, d = super().unit_transformer(source)
-        return r, source.high_volts**2 * source.uk, d
+        return r, source.high_volts**2 * 1000 * source.uk, d
 
 
 @planted

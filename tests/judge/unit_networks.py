@@ -20,11 +20,12 @@ FAR = 100000, 100000, 200000, 1
 
 
 def any_unit(draft, bus):
-    """A unit whose fields meet: xd at or beside ux, volts of both sides alike, kVA far apart."""
+    """A unit whose fields meet: xd next to ux or a thousandth farther, volts of both sides alike,
+    kVA far apart."""
     rng = draft.rng
     uk = 100 if rng.random() < 0.2 else draft.one_of(100, 30000)
     ur = uk - 1 if rng.random() < 0.2 else draft.one_of(0, uk - 1)
-    beside = transformer_ux(uk, ur) + rng.choice([-1, 0, 1])
+    beside = transformer_ux(uk, ur) // 1000 + rng.choice([-1, 0, 1])
     xd = beside if beside >= 1000 and rng.random() < 0.4 else None
     kva, transformer_kva = rng.choice([(None, None)] * 4 + [(10, 10**6), (10**6, 10), (5000, 5000)])
     high = draft.one_of(*rated_ends(draft.buses[bus][1]))
@@ -108,7 +109,9 @@ def worked_unit():
 
 WORKED = (10000, 20000, 0, 10000, 0), (10000, 10000, 0, 20000, 0), (10500, 20000, 50, 10000, 6000)
 
-# xd, uk and uR: xd below ux, at it, next to it and above it
+# xd, uk and uR: xd below ux, at it, next to it and above it.  xd is in thousandths of a percent and
+# ux in millionths: of 6,000 and 1,000 it is 5,916,079, between two numbers that xd can have; of
+# 10,000 and 6,000 it is 8,000,000, and xd can be at it.
 REACTANCES = [
     (1000, 30000, 0),
     (5916, 6000, 1000),
@@ -121,6 +124,8 @@ REACTANCES = [
     (8000, 10000, 6000),
     (20000, 12000, 500),
     (2000, 20000, 400),
+    (7999, 10000, 6000),
+    (8001, 10000, 6000),
 ]
 # Low volts, and the generator's at 9/10, at 11/10 or between
 LOW_SIDES = [(90, 81), (690, 759), (10500, 11000), (462000, 508200), (462000, 415800), (1000, 1001)]
