@@ -324,8 +324,8 @@ def fixed_breakings():
 
 
 def low_breakings():
-    """Order 6: q of a unit, and of a generator behind a transformer, above 2 and next below it by
-    a reactance in millionths of a percent; in thousandths it would be above 2 both times."""
+    """Order 6: two xd next to each other, of a unit and of a generator behind a transformer, of which the
+    first has q above 2 and the second below; with ux in thousandths both would be above."""
     found = []
     for ur, kva, of_unit, of_generator in ((99, 2000, 16352, 20599), (1, 3000, 20000, 21517)):
         for step in (0, 1):

@@ -156,8 +156,9 @@ def breaking_case(plan):
 
 
 # How many of a kind are drawn for one unit of work
-DRAWN_TOGETHER = {"networks": 8, "bytes": 100, "calls": 20, "writes": 20, "breakings": 10, "units": 8}
-DRAWN_TOGETHER |= {"reactances": 8}
+DRAWN_TOGETHER = {
+    "networks": 8, "bytes": 100, "calls": 20, "writes": 20, "breakings": 10, "units": 8, "reactances": 8,
+}
 
 
 def drawn_units(seed, counts):

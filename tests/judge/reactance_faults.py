@@ -2,8 +2,8 @@
 to find; those in the breaking current the breakings among them.
 
 A millionth of a percent is at most a hundred-thousandth of a transformer's impedance, that of uk 100,
-and a thousandth of a percent in K_T or in the difference of K_S alone is even less.  An impedance
-changed by some share changes no current of any network by more than √2 times that share.  So a root
+and a thousandth of a percent in K_T or in the difference of K_S alone is even less.  Impedances
+changed by some share change no current by more than about √2 times that share.  So a root
 that is rounded up or to the nearest, not reached, with a digit too few or scaled behind it, and
 thousandths in K_T or in that difference alone, shift every current by less than two ten-thousandths.
 They are found because bounds are given to a few amperes where hundreds of millions flow; in bounds as

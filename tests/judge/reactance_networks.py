@@ -102,7 +102,7 @@ WHOLES = (500, 300), (250, 240), (101, 20), (296, 64), (300, 1), (112, 111)
 
 
 def low_branches():
-    """Ends and whole numbers at 100 V to 420 kV, each side of the transformers once that of bus 0."""
+    """Ends and whole numbers, from bus 0 at 20 kV and at 400 V to buses of 100 V to 420 kV."""
     found = []
     for volts, tolerance in ((20000, 6), (400, 10)):
         draft = Draft(Random(volts), volts, tolerance)
@@ -115,8 +115,8 @@ def low_branches():
 
 
 def low_stations():
-    """The same of units, each alone at its bus, with xd low and high and, from its least on, at ux or
-    next to it on both sides."""
+    """The same of units, each alone at its bus, with xd low and high and, where ux is not below the least
+    xd, at ux or next to it on both sides."""
     found = []
     for volts, tolerance in ((400, 6), (20000, 6), (420000, 10)):
         draft = Draft(Random(volts), volts, tolerance)

@@ -153,7 +153,7 @@ def worked_reactances(tests):
         tests.same(f"{name}: plain Z of {what}", (z.re, z.im), due)
 
 
-def every_reactance(tests):
+def many_reactances(tests):
     """The root by its own words and by the plain rule, and that document 01's is its thousandths."""
     wrong = []
     for uk in [*range(100, 301), *range(500, 30001, 500), 12345, 29999]:
@@ -900,7 +900,7 @@ def main():
     worked_networks(tests)
     worked_units(tests)
     worked_reactances(tests)
-    every_reactance(tests)
+    many_reactances(tests)
     rows_of_seven(tests)
     worked_grounds(tests)
     against_plain(tests)

@@ -1,5 +1,5 @@
--- Document 01, "Element impedances in ohms", and document 02, orders 5 and 6: each as an exact point, drawn from the record's fields and nominal
--- volts alone and defined on all numbers. Assumes nothing.
+-- Document 01, "Element impedances in ohms", and document 02, orders 5 and 6: each as an exact point, drawn from the record's fields and
+-- nominal volts alone and defined on all numbers. Assumes nothing.
 use Prim.Native.Nat.{ℕ, _+_, _-_, _*_}
 use Rattle.enclosure.specs.Exact.{Point, sum, times}
 use Rattle.elements.specs.Factors.{factorC, sineOf, uxOf, splitOf}

@@ -33,7 +33,7 @@ pub fn sine(p: u32) -> u32
 }
 
 // A transformer's ux in millionths of a percent, by uk and uR in thousandths. Sixteen bits hold document 01's range twice over, and keep the
-// square within 64.
+// square within 64 bits.
 pub fn reactance(uk: u16, ur: u16) -> u32
     ensures { λ r. ⌜ r ≡ uxOf uk ur ⌝ }
 {

@@ -87,13 +87,14 @@ fn reactance_grid() {
     }
 }
 
-// The least uk with every uR: here a thousandth of uR weighs most.
+// The least uk, where a thousandth of a percent weighs most, with every uR.
 fn least_reactances() {
     for ur in 0..100 {
         reactance_row(100, ur);
     }
 }
 
+// uk next above it, with five uR each.
 fn low_reactances() {
     for uk in 101..301 {
         reactance_rows(uk);

@@ -1,33 +1,15 @@
 // Amperes as f64. An rms ampere and a peak ampere are two quantities, so that neither is taken for the other.
 // The contracts give the f64 operation; on whole numbers up to 2^53 it is that of the whole numbers (specs/laws/WholeF64.antt).
 ghost use mathlib.Core.Path.{_≡_};
-ghost use Prim.Native.Nat.{_^_, min};
 ghost use lib.Ieee.{binary64, add, sub, lt, le};
 ghost use Rattle.enclosure.specs.Doubles.{ofWhole};
+use crate::whole;
 
 // Root-mean-square amperes.
 pub struct Rms(pub f64);
 
 // Peak amperes.
 pub struct Peak(pub f64);
-
-// n, or 2^53 for any more.
-fn capped(n: u64) -> u64
-    ensures { λ r. ⌜ r ≡ min n (2 ^ 53) ⌝ }
-{
-    if n < 9007199254740992 {
-        n
-    } else {
-        9007199254740992
-    }
-}
-
-// A whole number as f64, nothing lost; 2^53 for any more.
-pub fn whole(n: u64) -> f64
-    ensures { λ r. ⌜ r ≡ ofWhole n ⌝ }
-{
-    capped(n) as f64
-}
 
 pub fn rms_of(n: u64) -> Rms
     ensures { λ r. ⌜ r .0 ≡ ofWhole n ⌝ }

@@ -7,7 +7,7 @@ pub mod roots;
 
 ghost use mathlib.Core.Path.{_≡_};
 ghost use Prim.Native.Nat.{_<_, _^_, min};
-ghost use Rattle.enclosure.specs.Doubles.{none, wholePoint, added, empty, inverted, scaled, sizeBelow, lowerOf, upperOf, boundsOf};
+ghost use Rattle.enclosure.specs.Doubles.{ofWhole, none, wholePoint, added, empty, inverted, scaled, sizeBelow, lowerOf, upperOf, boundsOf};
 
 pub struct Complex {
     pub re: f64,
@@ -78,11 +78,30 @@ pub fn scale(z: Complex, p: u32, q: u32) -> Complex
     }
 }
 
-// p/q of z for whole numbers past 32 bits; 2^53 stands for any more.
+// n, or 2^53 for any more.
+fn capped(n: u64) -> u64
+    ensures { λ r. ⌜ r ≡ min n (2 ^ 53) ⌝ }
+{
+    if n < 9007199254740992 {
+        n
+    } else {
+        9007199254740992
+    }
+}
+
+// A whole number as f64, nothing lost; 2^53 for any more.
+pub fn whole(n: u64) -> f64
+    ensures { λ r. ⌜ r ≡ ofWhole n ⌝ }
+{
+    capped(n) as f64
+}
+
+// p/q of z for whole numbers past 32 bits; 2^53 stands for any more. It is near the exact multiple for the pairs that are `Wide`
+// (specs/laws/F64Range.antt).
 pub fn scale_wide(z: Complex, p: u64, q: u64) -> Complex
     ensures { λ r. ⌜ r ≡ scaled (min p (2 ^ 53)) (min q (2 ^ 53)) z ⌝ }
 {
-    let ratio = amperes::whole(p) / amperes::whole(q);
+    let ratio = whole(p) / whole(q);
     Complex {
         re: z.re * ratio,
         im: z.im * ratio,

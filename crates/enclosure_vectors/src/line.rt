@@ -89,6 +89,11 @@ pub(crate) fn scale(z: Complex, p: u32, q: u32) -> Complex {
     result(enclosure::scale(z, p, q))
 }
 
+pub(crate) fn scale_wide(z: Complex, p: u64, q: u64) {
+    ratio(b"scale_wide", z, p, q);
+    result(enclosure::scale_wide(z, p, q));
+}
+
 pub(crate) fn lower(z: Complex, p: u16, q: u16) {
     ratio(b"lower", z, p as u64, q as u64);
     number(enclosure::lower(z, p, q));

@@ -16,6 +16,7 @@ use line::lower;
 use line::number;
 use line::of;
 use line::scale;
+use line::scale_wide;
 use line::text;
 use line::upper;
 
@@ -29,6 +30,10 @@ fn operations(z: Complex) {
     scale(z, 1, 1);
     scale(z, 2, 3);
     scale(z, 4294967295, 4294967294);
+    scale_wide(z, 110, 1999999999999);
+    scale_wide(z, 1999999999999, 110);
+    scale_wide(z, 70368744177663, 70368744177662);
+    scale_wide(z, 9007199254740993, 9007199254740991);
     let low = scale(z, 1, 4294967295);
     let high = scale(z, 4294967295, 1);
     add(low, high);
@@ -219,6 +224,10 @@ fn peak(a: u64, b: u64)
 fn against(a: u64)
     requires { ⌜ a ≤ 2 ^ 53 ⌝ }
 {
+    text(b"whole");
+    number(a);
+    bits(enclosure::whole(a));
+    end();
     text(b"rms_of");
     number(a);
     bits(amperes::rms_of(a).0);

@@ -31,11 +31,11 @@ factorC-sized tolerance volts = go (leb volts 1000) (eqb tolerance 6)
     go true false = (lit≤ tt, lit≤ tt)
     go false t = (lit≤ tt, lit≤ tt)
 
--- xd·sin, in 10⁹
+-- xd·sin, in 10⁻⁹
 pub saturation-most : (xd p : ℕ) → xd ≤ 100000 → xd * sineOf p ≤ 1000000000
 saturation-most xd p h = mul-le-mul h (sine-most p)
 
--- the same of a unit, |xd − xT|·sin in 10¹²; |xd − xT| is at most the larger of the two
+-- the same of a unit, |xd − xT|·sin in 10⁻¹²; |xd − xT| is at most the larger of the two
 apart-most : (a b k : ℕ) → a ≤ k → b ≤ k → apart a b ≤ k
 apart-most a b k h l = omega arith
 

@@ -145,7 +145,7 @@ generator-near tolerance Un Ur kVA xd ρ powerFactor hx hρ hp hn hr hv =
         (by 0 Ur kVA _ _ (omega arith) hr hv (start (xd * ρ) (xd * 100) (omega (arith, mul-le-mul hx hρ)) (omega arith)))))
 
 -- ---- a power station unit: t² and K_S cancel the high volts, and of the low volts and the generator's the transformer's part alone keeps a
--- ratio. D is |1,000·xd − w|·s
+-- ratio. D is |1,000·xd − ux|·s
 module _ (c D Un Ur kVA xd ρ low kVAT uR ux : ℕ) where
   abbrev pub reducedUnit : Point
   reducedUnit =

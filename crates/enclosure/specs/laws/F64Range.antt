@@ -61,7 +61,7 @@ no-size (suc s) (suc d) (suc t) u z e h = absurd (omega arith)
 abbrev pub Factor : ℕ → Type 0
 Factor p = (0 < p) × (p < 2 ^ 32)
 
--- what it can multiply and divide by at the same cost: numbers of up to 46 bits, neither of them 2 ^ 39 times the other
+-- what it can multiply and divide by at the same cost: numbers of up to 46 bits, neither more than 2 ^ 39 times the other
 pub record Wide (p q : ℕ) : Type 0 where
   pub over : 0 < p
   pub under : 0 < q
@@ -140,9 +140,9 @@ module _ (w : ℕ) where
 
     -- r is s·p/q to a factor of 2
     size-scaled : (r p q : ℕ) → Wide p q → s * p ≤ 2 * (r * q) → r * q ≤ 2 * (s * p) → (L ≤ r * (E * 2 ^ 40)) × (r ≤ L * (E * 2 ^ 40))
-    size-scaled r p q w h k = (
-      from-over (L ∷ E ∷ s ∷ r ∷ p ∷ q ∷ []) p (w .over) (p ⋆ lo ⊹ E ⋆ h ⊹ 2 * E * r ⋆ w .low) (search read depth 40 fits 20000) refl,
-      from-over (L ∷ E ∷ s ∷ r ∷ p ∷ q ∷ []) q (w .under) (k ⊹ 2 * s ⋆ w .high ⊹ 2 ^ 40 * q ⋆ hi) (search read depth 40 fits 20000) refl,
+    size-scaled r p q wide h k = (
+      from-over (L ∷ E ∷ s ∷ r ∷ p ∷ q ∷ []) p (wide .over) (p ⋆ lo ⊹ E ⋆ h ⊹ 2 * E * r ⋆ wide .low) (search read depth 40 fits 20000) refl,
+      from-over (L ∷ E ∷ s ∷ r ∷ p ∷ q ∷ []) q (wide .under) (k ⊹ 2 * s ⋆ wide .high ⊹ 2 ^ 40 * q ⋆ hi) (search read depth 40 fits 20000) refl,
     )
 
   -- a sum of two, of which the other is no larger than E
@@ -245,10 +245,10 @@ module _ (w : ℕ) where
     good-inverse k x l g =
         let f = fair-inverse x (g .fine) (good-sized span k₀ k x (reach-span (k - k₀) (omega arith)) g) in (f .0, record { fine = f .1; range = turned-range k₀ k x (inverted x) (g .range) (f .0) })
 
-    pub good-scale : (k p q : ℕ) (x : Complex) → Wide p q → k ≤ limit → Good k₀ k x → Near parts 4 (times p q (value x)) (value (scaled p q x)) × Good k₀ (k + 8) (scaled p q x)
-    good-scale k p q x w l g =
-        let f = fair-scale x (g .fine) p q (w .over) (w .under) (w .over-most) (w .under-most) (good-sized span k₀ k x (reach-span (k - k₀) (omega arith)) g) in
-        (f .0, record { fine = f .1; range = scaled-range k₀ k p q x (scaled p q x) w (g .range) (f .0) })
+    good-scale : (k p q : ℕ) (x : Complex) → Wide p q → k ≤ limit → Good k₀ k x → Near parts 4 (times p q (value x)) (value (scaled p q x)) × Good k₀ (k + 8) (scaled p q x)
+    good-scale k p q x wide l g =
+        let f = fair-scale x (g .fine) p q (wide .over) (wide .under) (wide .over-most) (wide .under-most) (good-sized span k₀ k x (reach-span (k - k₀) (omega arith)) g) in
+        (f .0, record { fine = f .1; range = scaled-range k₀ k p q x (scaled p q x) wide (g .range) (f .0) })
 
     pub doubles-near-steps : NearSteps doubles value (Good k₀) Factor parts limit 2 6 4 1
     doubles-near-steps = record {
@@ -273,6 +273,6 @@ f64-rules k l = near-steps-rules doubles value (Good 200 k) Factor parts (k + 50
 
 -- and for a scaling by wider numbers
 pub wide-near : (k p q : ℕ) (x : Point) (z : Complex) → Wide p q → k ≤ 50 → NearTo value (Good 200 0) parts k x z → NearTo value (Good 200 0) parts (k + 8) (times p q x) (scaled p q z)
-wide-near k p q x z w l h =
-    let g = good-scale 200 0 50 (omega arith) k p q z w l (h .1) in
-    (near-trans parts k 4 _ _ _ (omega arith) (omega arith) (near-times parts k p q x (value z) (w .under) (h .0)) (g .0), g .1)
+wide-near k p q x z wide l h =
+    let g = good-scale 200 0 50 (omega arith) k p q z wide l (h .1) in
+    (near-trans parts k 4 _ _ _ (omega arith) (omega arith) (near-times parts k p q x (value z) (wide .under) (h .0)) (g .0), g .1)

@@ -33,7 +33,7 @@ pub record UnitRange (Un Ur kVA xd ρ low high kVAT uk uR : ℕ) : Type 0 where
   pub uk-most : uk ≤ 30000
   pub uR-most : uR ≤ 30000
 
--- ---- the calculated form, D being |1,000·xd − w|·s
+-- ---- the calculated form, D being |1,000·xd − ux|·s
 module _ (c D Un Ur kVA xd ρ low kVAT uR ux : ℕ) where
   reduced-proper : 0 < Ur → 0 < kVA → 0 < kVAT → 0 < reducedUnit c D Un Ur kVA xd ρ low kVAT uR ux .den
   reduced-proper r v t = mul-pos (mul-pos (mul-pos (mul-pos (mul-pos (lit< tt) v) (mul-pos (mul-pos (lit< tt) r) r)) t) (lit< tt)) (omega arith)

@@ -1,11 +1,11 @@
--- `enclosure::amperes::whole` meets its contract: the cast loses nothing. Assumes nothing.
+-- `enclosure::whole` meets its contract: the cast loses nothing. Assumes nothing.
 use mathlib.Core.Path.{ap}
 use native.Mathlib.Omega.{arith}
 use borrow.Author.Needs.{needs}
 use Rattle.enclosure.specs.Exact.{ofNat}
 use Rattle.enclosure.specs.laws.WholeF64.{castable}
-use Rattle.enclosure.proofs.amperes.whole.Statement.{statement}
-use Rattle.enclosure.proofs.amperes.whole.Tie as tie
+use Rattle.enclosure.proofs.whole.Statement.{statement}
+use Rattle.enclosure.proofs.whole.Tie as tie
 
 capped-requires : tie.Need-capped-requires
 capped-requires c κs = search needs
