@@ -56,7 +56,7 @@ abbrev pub apart : ℕ → ℕ → ℕ
 apart a b = a - b + (b - a)
 
 -- "K_S = Un²/Ur²·low²/high²·c/(1 + |xd − xT|·sin), c and Un of the bus, xd as a fraction, xT = ux/100,000", which is w/10⁸ now; with c in
--- hundredths, the sine s in ten-thousandths, and d = |xd − xT| in 10⁻⁸:
+-- hundredths, the sine s in ten-thousandths, and d = |xd − xT| in 10⁻⁸, which is |1,000·xd − w|:
 -- 1 + d/10⁸·s/10⁴ = (10¹² + d·s)/10¹², so K_S = Un²·low²·c·10¹²/(Ur²·high²·100·(10¹² + d·s)) = Un²·low²·(10¹⁰·c)/(Ur²·high²·(10¹² + d·s))
 abbrev pub correctS : ℕ → ℕ → ℕ → ℕ → ℕ → ℕ → ℕ → Point → Point
 correctS c Un Ur low high d s z = times (Un * Un * (low * low) * (10000000000 * c)) (Ur * Ur * (high * high) * (1000000000000 + d * s)) z

@@ -23,7 +23,8 @@ pub fn line(r: u32, x: u32, metres: u32, circuits: u32) -> Complex
     scale(scale(of(r, x), metres, circuits), 1, 1_000_000)
 }
 
-// On the bus's own side; `lower` is the lower of the two nominal voltages.
+// On the bus's own side; `lower` is the lower of the two nominal voltages. Nothing where uk is past its range or uR above uk, which no
+// accepted record has.
 pub fn transformer(tolerance: u32, lower: u32, own: u32, kva: u32, uk: u32, ur: u32) -> Complex
     ensures { λ z. ⌜ z ≡ transformerBy tolerance lower own kva uk ur ⌝ }
 {
@@ -102,6 +103,7 @@ fn saturation(xd: u32, ux: u32, power_factor: u32) -> u64
 }
 
 // A generator and its own transformer, seen at a bus of these nominal volts on the transformer's high side. The high volts cancel.
+// Nothing where xd or uk is past its range or uR above uk.
 pub fn station_unit(
     tolerance: u32,
     volts: u32,

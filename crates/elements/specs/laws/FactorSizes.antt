@@ -31,6 +31,10 @@ factorC-sized tolerance volts = go (leb volts 1000) (eqb tolerance 6)
     go true false = (lit≤ tt, lit≤ tt)
     go false t = (lit≤ tt, lit≤ tt)
 
+-- ux in document 01's range of uk
+pub ux-few : (uk uR : ℕ) → uk ≤ 30000 → uxOf uk uR ≤ 30000000
+ux-few uk uR h = omega (arith, ux-most uk uR)
+
 -- xd·sin, in 10⁻⁹
 pub saturation-most : (xd p : ℕ) → xd ≤ 100000 → xd * sineOf p ≤ 1000000000
 saturation-most xd p h = mul-le-mul h (sine-most p)
@@ -41,10 +45,10 @@ apart-most a b k h l = omega arith
 
 -- and against xd: at most 1.31·10⁹·xd with the 10¹² that it is added to
 pub unit-saturation-over : (xd uk uR p : ℕ) → 1000 ≤ xd → uk ≤ 30000 → 1000000000000 + apart (1000 * xd) (uxOf uk uR) * sineOf p ≤ 1310000000 * xd
-unit-saturation-over xd uk uR p h k = go (uxOf uk uR) (ux-most uk uR)
+unit-saturation-over xd uk uR p h k = go (uxOf uk uR) (ux-few uk uR k)
   where
-    go : (ux : ℕ) → ux ≤ 1000 * uk → 1000000000000 + apart (1000 * xd) ux * sineOf p ≤ 1310000000 * xd
+    go : (ux : ℕ) → ux ≤ 30000000 → 1000000000000 + apart (1000 * xd) ux * sineOf p ≤ 1310000000 * xd
     go ux l = let m : apart (1000 * xd) ux ≤ 1000 * xd + 30000000 = omega arith in omega (arith, mul-le-mul m (sine-most p))
 
 pub unit-saturation-most : (xd uk uR p : ℕ) → xd ≤ 100000 → uk ≤ 30000 → apart (1000 * xd) (uxOf uk uR) * sineOf p ≤ 1000000000000
-unit-saturation-most xd uk uR p h k = mul-le-mul (apart-most (1000 * xd) (uxOf uk uR) 100000000 (omega arith) (omega (arith, ux-most uk uR))) (sine-most p)
+unit-saturation-most xd uk uR p h k = mul-le-mul (apart-most (1000 * xd) (uxOf uk uR) 100000000 (omega arith) (omega (arith, ux-few uk uR k))) (sine-most p)

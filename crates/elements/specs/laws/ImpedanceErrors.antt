@@ -16,8 +16,7 @@ use Rattle.enclosure.specs.laws.F64Errors.{value}
 use Rattle.enclosure.specs.laws.F64Range.{Good, Factor, Wide, f64-rules, wide-near}
 use Rattle.enclosure.specs.laws.ElementStart.{whole-near}
 use Rattle.elements.specs.Factors.{factorC, sineOf, uxOf, splitOf}
-use Rattle.elements.specs.laws.Factors.{ux-most}
-use Rattle.elements.specs.laws.FactorSizes.{split-re-most, split-im-most, factorC-sized, saturation-most, unit-saturation-most}
+use Rattle.elements.specs.laws.FactorSizes.{split-re-most, split-im-most, factorC-sized, ux-few, saturation-most, unit-saturation-most}
 use Rattle.elements.specs.Impedance.{line, correctT, shortCircuit, transformer, split, feeder, motor, generator, apart, correctS, plainGenerator, stationUnit, converter}
 use Rattle.elements.specs.Doubles.{lineBy, transformerBy, splitBy, feederBy, motorBy, generatorBy, stationUnitBy, converterBy}
 
@@ -66,7 +65,7 @@ converter-near tenths k ht hk =
 correction : (tolerance volts uk uR : ℕ) → uk ≤ 30000 → Factor (9500 * factorC tolerance volts) × Factor (1000000000 + 6 * uxOf uk uR)
 correction tolerance volts uk uR h =
     let c = factorC-sized tolerance volts in
-    let u = ux-most uk uR in
+    let u = ux-few uk uR h in
     ((omega (arith, c .0), omega (arith, c .1)), (omega arith, omega arith))
 
 pub transformer-near : (tolerance lower own kVA uk uR : ℕ) → uk ≤ 30000 → uR ≤ uk → Factor own → Factor kVA
@@ -74,7 +73,7 @@ pub transformer-near : (tolerance lower own kVA uk uR : ℕ) → uk ≤ 30000 �
 unfolding transformer transformerBy
 transformer-near tolerance lower own kVA uk uR hk hr ho hv =
     rw (le-leb uk 30000 hk, le-leb uR uk hr)
-    (go (factorC tolerance lower) (uxOf uk uR) (correction tolerance lower uk uR hk) (omega (arith, ux-most uk uR)))
+    (go (factorC tolerance lower) (uxOf uk uR) (correction tolerance lower uk uR hk) (omega (arith, ux-few uk uR hk)))
   where
     same : (a c x : ℕ) → a * own * own * (9500 * c) * (100000000 * (1000 * kVA) * (1000000000 + 6 * x)) ≡ a * (own * own) * (9500000 * c) * (1 * kVA * 100000000 * (1000000000 + 6 * x))
     same a c x = identity (a ∷ own ∷ c ∷ kVA ∷ x ∷ []) (search read depth 40 fits 20000) refl
@@ -186,7 +185,7 @@ unfolding stationUnitBy
 unit-near tolerance Un Ur kVA xd ρ powerFactor low high kVAT uk uR hx hk hR hp hρ hn hr hv hd hl hh ht =
     rw (le-leb xd 100000 hx, le-leb uk 30000 hk, le-leb uR uk hR, max-eq-left hp)
     (equal 44 _ (stationUnit tolerance Un Ur kVA xd ρ powerFactor low high kVAT uk uR) _ (unit-proper tolerance Un Ur kVA xd ρ powerFactor low high kVAT uk uR (hr .0) (hv .0) (hl .0) (hh .0) (ht .0)) (unit-same tolerance Un Ur kVA xd ρ powerFactor low high kVAT uk uR)
-    (go (factorC tolerance Un) (apart (1000 * xd) (uxOf uk uR) * sineOf powerFactor) (uxOf uk uR) (factorC-sized tolerance Un) (unit-saturation-most xd uk uR powerFactor hx hk) (omega (arith, ux-most uk uR))))
+    (go (factorC tolerance Un) (apart (1000 * xd) (uxOf uk uR) * sineOf powerFactor) (uxOf uk uR) (factorC-sized tolerance Un) (unit-saturation-most xd uk uR powerFactor hx hk) (omega (arith, ux-few uk uR hk))))
   where
     wide : (c D : ℕ) → (100 < c) × (c ≤ 110) → D ≤ 1000000000000 → Wide c (1000000000000 + D)
     wide c D h l = record { over = omega arith; under = omega arith; over-most = omega arith; under-most = omega arith; high = omega arith; low = omega arith }

@@ -14,7 +14,7 @@ use Rattle.algebra.specs.Polynomial.{two-sq, le-or-le}
 use Rattle.algebra.specs.Reading.{poly, from, from-over, read, _⊹_, _⋆_}
 use Rattle.enclosure.specs.laws.Close.{Close}
 use Rattle.enclosure.specs.Exact.{norm, Point, nothing, sum, times, turned, inverse, exact}
-use Rattle.enclosure.specs.laws.Nearness.{Near, NearSteps, Rules, NearTo, near-steps-rules, near-times, near-trans}
+use Rattle.enclosure.specs.laws.Nearness.{Near, NearSteps, Rules, NearTo, near-steps-rules, near-scaled}
 use Rattle.enclosure.specs.declared.Complex.{Complex}
 use Rattle.enclosure.specs.laws.Units.{unit, span, Between, Sized, between-more, unit-pos, Is, unitsOf, units-is}
 use Rattle.enclosure.specs.laws.StepErrors.{parts}
@@ -275,4 +275,4 @@ f64-rules k l = near-steps-rules doubles value (Good 200 k) Factor parts (k + 50
 pub wide-near : (k p q : ℕ) (x : Point) (z : Complex) → Wide p q → k ≤ 50 → NearTo value (Good 200 0) parts k x z → NearTo value (Good 200 0) parts (k + 8) (times p q x) (scaled p q z)
 wide-near k p q x z wide l h =
     let g = good-scale 200 0 50 (omega arith) k p q z wide l (h .1) in
-    (near-trans parts k 4 _ _ _ (omega arith) (omega arith) (near-times parts k p q x (value z) (wide .under) (h .0)) (g .0), g .1)
+    (near-scaled parts k 4 p q x (value z) _ (omega arith) (omega arith) (wide .under) (h .0) (g .0), g .1)

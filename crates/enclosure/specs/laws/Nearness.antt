@@ -193,6 +193,10 @@ pub record NearSteps {B : Type 0} (o : Ops B) (value : B → Point) (Good : ℕ 
 abbrev pub NearTo : {B : Type 0} → (B → Point) → (ℕ → B → Type 0) → ℕ → ℕ → Point → B → Type 0
 NearTo value Good M k x y = Near M k x (value y) × Good k y
 
+-- a scaling, rounded: what is near x, scaled, to what is near that
+pub near-scaled : (M k s p q : ℕ) (x y y′ : Point) → 0 < M → 4 * k ≤ M → 0 < q → Near M k x y → Near M s (times p q y) y′ → Near M (k + 2 * s) (times p q x) y′
+near-scaled M k s p q x y y′ z l d h g = near-trans M k s _ _ _ z l (near-times M k p q x y d h) g
+
 pub near-steps-rules : {B : Type 0} (o : Ops B) (value : B → Point) (Good : ℕ → B → Type 0) (Factor : ℕ → Type 0) (M limit a v s c : ℕ) → 0 < M → 0 < c
     → 4 * (limit + c) ≤ M → 2 * (limit * (limit + c)) ≤ c * M → NearSteps o value Good Factor M limit a v s c → Rules exact o (NearTo value Good M) Factor limit (2 * a) (c + 2 * v) (2 * s)
 near-steps-rules o value Good Factor M limit a v s c z w l₁ l₂ f =
@@ -211,7 +215,7 @@ near-steps-rules o value Good Factor M limit a v s c z w l₁ l₂ f =
           );
       near-scale = λ k p q x y hp hq l h.
           let g = f .fair-scale k p q y hp hq l (h .1) in
-          (near-trans M k s _ _ _ z (omega arith) (near-times M k p q x (value y) (f .positive q hq) (h .0)) (g .0), g .1);
+          (near-scaled M k s p q x (value y) _ z (omega arith) (f .positive q hq) (h .0) (g .0), g .1);
     }
   where
     fits : (k : ℕ) → k ≤ limit → 2 * (k * (k + c)) ≤ c * M

@@ -9,8 +9,7 @@ use lib.Dec.{lit<, lit≤}
 use Rattle.algebra.specs.Reading.{from, from-over, read, _⊹_, _⋆_}
 use Rattle.enclosure.specs.Exact.{Point}
 use Rattle.elements.specs.Factors.{factorC, sineOf, uxOf}
-use Rattle.elements.specs.laws.Factors.{ux-most}
-use Rattle.elements.specs.laws.FactorSizes.{factorC-sized, unit-saturation-over}
+use Rattle.elements.specs.laws.FactorSizes.{factorC-sized, ux-few, unit-saturation-over}
 use Rattle.elements.specs.Impedance.{apart, stationUnit}
 use Rattle.elements.specs.laws.ImpedanceErrors.{reducedUnit, unit-same, unit-proper}
 use Rattle.tree.specs.laws.AdmittanceSizes.{AtMost, AtLeast, most-same, least-same}
@@ -62,9 +61,6 @@ module _ (c D Un Ur kVA xd ρ low kVAT uR ux : ℕ) where
 -- what keeps the square away from 0 keeps the impedance away from it too
 least-of-square : (U : ℕ) (z : Point) → 100 ≤ U → AtLeast (U * U) (2 ^ 38) z → AtLeast U machineMost z
 least-of-square U z h k = from-over (U ∷ z .re ∷ z .im ∷ z .den ∷ []) 100 (lit< tt) (k ⊹ 2 * U * z .den ⋆ h) (search read depth 40 fits 20000) refl
-
-ux-few : (uk uR : ℕ) → uk ≤ 30000 → uxOf uk uR ≤ 30000000
-ux-few uk uR h = omega (arith, ux-most uk uR)
 
 -- ---- the literal form
 module _ (tolerance Un Ur kVA xd ρ powerFactor low high kVAT uk uR : ℕ) (r : UnitRange Un Ur kVA xd ρ low high kVAT uk uR) where

@@ -2,8 +2,7 @@
 use native.Mathlib.Omega.{arith}
 use borrow.Author.Needs.{needs}
 use borrow.Author.Tests.{le-leb, lt-leb}
-use Rattle.elements.specs.laws.Factors.{ux-most}
-use Rattle.elements.specs.laws.FactorSizes.{factorC-sized}
+use Rattle.elements.specs.laws.FactorSizes.{factorC-sized, ux-few}
 use Rattle.elements.specs.Doubles.{transformerBy}
 use Rattle.elements.proofs.impedances.transformer.Statement.{statement}
 use Rattle.elements.proofs.impedances.transformer.Tie as tie
@@ -56,12 +55,12 @@ mul-scale c =
 mul-scale-2 : tie.Need-mul-scale-2
 mul-scale-2 c =
     let s = c .before .before .before .before .before .before .before in
-    record { fits = rw (c .before .before .before .before .reactance .ensures) (omega (arith, ux-most (s .args .uk) (s .args .ur), c .before .before .before .before .before .before .if1 .left)) }
+    record { fits = rw (c .before .before .before .before .reactance .ensures) (omega (arith, ux-few (s .args .uk) (s .args .ur) (c .before .before .before .before .before .before .if1 .left))) }
 
 add-scale : tie.Need-add-scale
 add-scale c =
     let s = c .before .before .before .before .before .before .before in
-    record { fits = rw (c .before .before .before .before .reactance .ensures) (omega (arith, ux-most (s .args .uk) (s .args .ur), c .before .before .before .before .before .before .if1 .left)) }
+    record { fits = rw (c .before .before .before .before .reactance .ensures) (omega (arith, ux-few (s .args .uk) (s .args .ur) (c .before .before .before .before .before .before .if1 .left))) }
 
 scale-requires-3 : tie.Need-scale-requires-3
 scale-requires-3 c κs = search needs
