@@ -6,10 +6,11 @@ pub mod Grounds
 pub mod Additions
 pub mod Grid
 pub mod Demand
-pub mod NearPeaks
 pub mod RoundedSourceKinds
 pub mod Doubles
 pub mod Query
-pub mod QueryAll
 pub mod Promise
+pub mod Tables
+pub mod Report
+pub mod NearPeaks
 pub mod laws

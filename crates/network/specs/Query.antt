@@ -1,9 +1,9 @@
--- Querying a bus, and all buses: the grounds of refusal, and what is given.
+-- Querying a bus: the grounds of refusal, and what is given.
 use mathlib.Core.Bool.{cond}
 use mathlib.Core.List.{List, [], _∷_}
 use Prim.Native.Nat.{ℕ}
 use lib.Dec.{ltb, eqb}
-use lib.ListN.{length, getD}
+use lib.ListN.{length}
 use Rattle.enclosure.specs.Exact.{ofNat}
 use Rattle.network.specs.declared.query.Amperes.{Amperes}
 use Rattle.network.specs.declared.query.Verdict.{Verdict}
@@ -12,7 +12,6 @@ use Rattle.network.specs.Network.{Network, busAt}
 use Rattle.network.specs.Grounds.{Ground, on, first}
 use Rattle.network.specs.Demand.{amperesOf}
 use Rattle.network.specs.Doubles.{amperesAt, verdictOf}
-use Rattle.sweep.specs.Columns.{column}
 use Rattle.network.specs.declared.query.Found.{Found}
 
 -- "22 not closed (querying)."; "15 queried bus absent."
@@ -35,14 +34,3 @@ verdictGiven n b = cond (eqb (queryNumber n b) 0) (verdictOf (amperesAt n b) (of
 -- what a query of bus b gives
 unfoldable pub foundGiven : Network → ℕ → Found
 foundGiven n b = record { number = queryNumber n b; amperes = amperesGiven n b; verdict = verdictGiven n b }
-
--- the same for every bus
-unfoldable pub rowsGiven : Network → List Found
-rowsGiven n = column (foundGiven n)
-
--- a refused query, and the row at a place
-abbrev pub refusedBy : ℕ → Found
-refusedBy number = record { number = number; amperes = noAmperes; verdict = Close }
-
-abbrev pub rowAt : List Found → ℕ → Found
-rowAt l b = getD l b (refusedBy 15)

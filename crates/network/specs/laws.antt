@@ -21,7 +21,9 @@ pub mod Claim
 pub mod Sentences
 pub mod Alike
 pub mod Verdict
-pub mod QueryAll
+pub mod Query
 pub mod Promise
+pub mod Tables
+pub mod Report
 pub mod NearPeaks
 pub mod Worked

@@ -1,5 +1,5 @@
 // A study of a radial network: what it holds (study), the calls that make it (calls; several additions in one, additions), and what it is
-// asked (query). The other modules are what these stand on.
+// asked (query; all buses together, report). The other modules are what these stand on.
 pub mod additions;
 mod board;
 mod bus_grounds;
@@ -10,6 +10,7 @@ mod contents;
 mod figures;
 pub mod query;
 mod records;
+pub mod report;
 mod rows;
 mod source_grounds;
 mod source_kinds;

@@ -1,16 +1,14 @@
-// What a query of a closed study gives: six amperes and a verdict, for a bus or for all of them.
+// What a query of a closed study gives: six amperes and a verdict.
 ghost use mathlib.Core.Path.{_≡_};
-ghost use Prim.Native.Nat.{ℕ, _<_};
-ghost use Rattle.tree.specs.Limits.{maxBuses};
+ghost use Rattle.enclosure.specs.Exact.{ofNat};
 ghost use Rattle.network.specs.Network.{network};
 ghost use Rattle.network.specs.Doubles.{verdictOf};
 ghost use Rattle.network.specs.Promise.{Promise};
 ghost use Rattle.network.specs.NearPeaks.{NearPromise};
-ghost use Rattle.network.specs.Query.{queryNumber, noAmperes, amperesGiven, verdictGiven, foundGiven, rowsGiven, rowAt};
+ghost use Rattle.network.specs.Query.{queryNumber, noAmperes, amperesGiven, verdictGiven, foundGiven};
 use crate::board::board_of;
-use crate::rows::all_given;
-use crate::rows::answered;
-use crate::study::BUSES;
+use crate::rows::row_at;
+use crate::study::Bus;
 use crate::study::Study;
 use crate::study::bus_total;
 use enclosure::amperes::Peak;
@@ -49,8 +47,8 @@ pub struct Found {
     pub verdict: Verdict,
 }
 
-// A bus's six amperes against its ratings. The peak is looked at first.
-pub fn verdict_of(a: Amperes, rating: Rms, peak_rating: Peak) -> Verdict
+// Six amperes against two ratings. The peak is looked at first.
+fn verdict_of(a: Amperes, rating: Rms, peak_rating: Peak) -> Verdict
     ensures { λ r. ⌜ r ≡ verdictOf a (rating .0) («peak_rating» .0) ⌝ }
 {
     let lower = add_rms(a.lower, a.converters_lower);
@@ -70,8 +68,15 @@ pub fn verdict_of(a: Amperes, rating: Rms, peak_rating: Peak) -> Verdict
     Verdict::Close
 }
 
+// The six amperes of a bus against the ratings of its record.
+pub fn verdict_at(bus: Bus, a: Amperes) -> Verdict
+    ensures { λ r. ⌜ r ≡ verdictOf a (ofNat (bus .rating)) (ofNat (bus .«peak_rating»)) ⌝ }
+{
+    verdict_of(a, Rms(bus.rating as f64), Peak(bus.peak_rating as f64))
+}
+
 // A refused query.
-pub(crate) fn refused(number: u32) -> Found
+fn refused(number: u32) -> Found
     ensures number { λ r. ⌜ r .number ≡ number ⌝ }
     ensures amperes { λ r. ⌜ r .amperes ≡ noAmperes ⌝ }
     ensures verdict { λ r. ⌜ r .verdict ≡ Verdict.Close ⌝ }
@@ -108,9 +113,9 @@ fn given(s: Study, bus: u32) -> Found
     let buses = s.buses;
     let sources = s.sources;
     let board = board_of(s.tolerance, buses, s.bus_count, sources, s.source_count);
-    answered(
+    let amperes = row_at(
         s.tolerance,
-        record,
+        record.volts,
         &board.tree.parents,
         &board.tree.above,
         &board.tree.below,
@@ -120,7 +125,12 @@ fn given(s: Study, bus: u32) -> Found
         &board.fall.im,
         board.gathered,
         b,
-    )
+    );
+    Found {
+        number: 0,
+        amperes,
+        verdict: verdict_at(record, amperes),
+    }
 }
 
 // The six amperes of a bus, and its verdict. Refused: 22 not closed, 15 no such bus; then the amperes are 0 and the verdict is close.
@@ -133,14 +143,4 @@ pub fn query(s: Study, bus: u32) -> Found
     ensures near { λ r. ⌜ NearPromise (network s) bus r ⌝ }
 {
     given(s, bus)
-}
-
-// The answers to a query of each bus, at its place: as `query` gives them, but calculated together. Past the last bus stands the refusal
-// of a bus that is not there.
-pub fn query_all(s: Study) -> [Found; BUSES]
-    ensures rows { λ r. ⌜ r ≡ rowsGiven (network s) ⌝ }
-    ensures promise { λ r. ⌜ ((b : ℕ) → b < maxBuses → Promise (network s) b (rowAt r b)) ⌝ }
-    ensures near { λ r. ⌜ ((b : ℕ) → b < maxBuses → NearPromise (network s) b (rowAt r b)) ⌝ }
-{
-    all_given(s)
 }

@@ -1,20 +1,31 @@
 -- `network::query::given` gives what Query defines. Assumes nothing.
 use mathlib.Core.Path.{_≡_, sym, ap, _∙_}
-use Prim.Native.Nat.{_<_}
+use Prim.Native.Nat.{ℕ, _<_}
 use native.Mathlib.Omega.{arith}
 use lib.ListN.{length}
 use borrow.Author.Tests.{not-true, not-false}
+use Rattle.enclosure.specs.Exact.{ofNat}
+use Rattle.elements.specs.Factors.{factorC}
 use Rattle.network.specs.declared.study.Bus.{Bus}
+use Rattle.network.specs.declared.query.Amperes.{Amperes}
+use Rattle.network.specs.declared.query.Found.{Found}
 use Rattle.tree.specs.Limits.{maxBuses}
-use Rattle.network.specs.Network.{network, busAt, blank}
-use Rattle.network.specs.QueryAll.{answerBy}
+use Rattle.network.specs.Network.{Network, network, busAt, blank}
+use Rattle.network.specs.Demand.{amperesOf}
 use Rattle.sweep.specs.Sweep.{seenOf}
-use Rattle.network.specs.Doubles.{boardOf, seenAt, carriedAt}
-use Rattle.network.specs.laws.QueryAll.{refused-whole, found-open, found-absent, found-there}
+use Rattle.network.specs.Doubles.{boardOf, seenAt, carriedAt, figuresBy, verdictOf}
+use Rattle.network.specs.laws.Query.{refused-whole, found-open, found-absent, found-there}
 use Rattle.network.proofs.Lists.{length-mapped, inside-array, read-counted}
 use borrow.Author.Needs.{needs}
 use Rattle.network.proofs.query.given.Statement.{statement}
 use Rattle.network.proofs.query.given.Tie as tie
+
+-- what bus b gets, by a record
+abbrev rowBy : Network → ℕ → Bus → Amperes
+rowBy n b x = amperesOf (figuresBy (factorC (n .tolerance) (x .volts)) (x .volts) (seenAt n b) (carriedAt n b))
+
+abbrev answerBy : Network → ℕ → Bus → Found
+answerBy n b x = record { number = 0; amperes = rowBy n b x; verdict = verdictOf (rowBy n b x) (ofNat (x .rating)) (ofNat (x .«peak_rating»)) }
 
 whole : (c : tie.Start) → length (c .args .t1 .buses) ≡ maxBuses
 whole c = search (needs, length-mapped)
@@ -58,20 +69,25 @@ element-copy-out-record c =
 board-of-requires : tie.Need-board-of-requires
 board-of-requires c κs = search needs
 
-answered-requires : tie.Need-answered-requires
-answered-requires c κs = search needs
+row-at-requires : tie.Need-row-at-requires
+row-at-requires c κs = search needs
+
+verdict-at-requires : tie.Need-verdict-at-requires
+verdict-at-requires c κs = search needs
 
 returns-3 : tie.Need-returns-3
 unfolding seenAt seenOf carriedAt boardOf
 returns-3 c =
-    let d = c .before .before .before .before .before .before .before .before .before .before .before .before .before .before in
+    let q = c .before in
+    let d = q .before .before .before .before .before .before .before .before .before .before .before .before .before .before in
     let o = d .before .before .before in
     let s = o .args .t1 in
     let b = o .args .bus in
     let n = network s in
     let r = read-counted maxBuses (s .«bus_count») (s .buses) (whole o) b blank (inside d) in
-    let f : c .answered .result ≡ answerBy (s .tolerance) (busAt (s .buses) b) (seenAt n b) (carriedAt n b) = rw (c .before .before .before .before .before .before .before .before .before .before .board-of .ensures) at (c .answered .ensures (length (n .buses))) in
-    f ∙ ap (λ (x : Bus). answerBy (s .tolerance) x (seenAt n b) (carriedAt n b)) r ∙ sym (found-there n (not-false _ (d .before .before .if1 .left)) b (inside d))
+    let f : q .row-at .result ≡ rowBy n b (busAt (s .buses) b) = rw (q .before .before .before .before .before .before .before .before .before .before .board-of .ensures) at (q .row-at .ensures (length (n .buses))) in
+    let g : record { number = 0; amperes = q .row-at .result; verdict = c .verdict-at .result } ≡ answerBy n b (busAt (s .buses) b) = rw (c .verdict-at .ensures, f) in
+    g ∙ ap (answerBy n b) r ∙ sym (found-there n (not-false _ (d .before .before .if1 .left)) b (inside d))
 
 pub given-spec : {M : Type 1} → statement M
 given-spec =
@@ -85,5 +101,6 @@ given-spec =
     mul-record
     element-copy-out-record
     board-of-requires
-    answered-requires
+    row-at-requires
+    verdict-at-requires
     returns-3)

@@ -1,0 +1,79 @@
+// The whole board (document 02, order 7): the six amperes of every bus in a lent table, from one board and so from one sweep towards bus 0
+// and one away from it.
+ghost use mathlib.Core.Path.{_≡_};
+ghost use Prim.Native.Nat.{_+_, _*_, _≤_};
+ghost use lib.ListN.{length};
+ghost use lib.Seq.{sets};
+ghost use Rattle.network.specs.Network.{network};
+ghost use Rattle.network.specs.NearPeaks.{NearReport};
+ghost use Rattle.network.specs.Report.{reportNumber, rowNumbers, reported, ReportPromise};
+ghost use Rattle.network.specs.Tables.{laidOver, tableAfter};
+use crate::board::board_of;
+use crate::query::Amperes;
+use crate::rows::row_at;
+use crate::study::Study;
+use crate::study::bus_total;
+
+// The numbers of a row.
+pub const ROW: usize = 6;
+
+// Lays the six numbers of a row into the table, from a place on.
+fn lay_row(table: &mut [f64], at: usize, a: Amperes)
+    requires { ⌜ at + 6 ≤ length (now table) ⌝ }
+    ensures { λ _. ⌜ now (table .exit) ≡ sets (now (table .entry)) at (rowNumbers a) ⌝ }
+{
+    table[at] = a.lower.0;
+    table[at + 1] = a.upper.0;
+    table[at + 2] = a.converters_lower.0;
+    table[at + 3] = a.converters_upper.0;
+    table[at + 4] = a.peak.0;
+    table[at + 5] = a.converters_peak.0;
+}
+
+// Lays the rows of all buses at the start of the table.
+fn lay_rows(s: Study, table: &mut [f64])
+    requires { ⌜ 6 * length (network s .buses) ≤ length (now table) ⌝ }
+    ensures { λ _. ⌜ now (table .exit) ≡ laidOver (reported (network s)) (now (table .entry)) ⌝ }
+{
+    let total = bus_total(s);
+    let buses = s.buses;
+    let sources = s.sources;
+    let board = board_of(s.tolerance, buses, s.bus_count, sources, s.source_count);
+    let mut b: usize = 0;
+    while b < total {
+        let amperes = row_at(
+            s.tolerance,
+            buses[b].volts,
+            &board.tree.parents,
+            &board.tree.above,
+            &board.tree.below,
+            &board.up.re,
+            &board.up.im,
+            &board.fall.re,
+            &board.fall.im,
+            board.gathered,
+            b,
+        );
+        lay_row(table, ROW * b, amperes);
+        b += 1;
+    }
+}
+
+// The six amperes of every bus, in the order of a query, from bus 0 up at the start of the table; numbers beyond the last row are kept.
+// Refused: 22 not closed, 33 the table is shorter than six times the buses; then the table is as it was. The clause `promise` is demand 3 for
+// each row, for whatever calls made the study; `near` holds the peaks nearer than demand 3 asks.
+pub fn report(s: Study, table: &mut [f64]) -> u32
+    ensures number { λ r. ⌜ r ≡ reportNumber (network s) (length (now (table .entry))) ⌝ }
+    ensures table { λ r. ⌜ now (table .exit) ≡ tableAfter r (reported (network s)) (now (table .entry)) ⌝ }
+    ensures promise { λ r. ⌜ ReportPromise (network s) (now (table .entry)) (now (table .exit)) ⌝ }
+    ensures near { λ r. ⌜ NearReport (network s) (now (table .entry)) (now (table .exit)) ⌝ }
+{
+    if !s.closed {
+        return 22;
+    }
+    if table.len() < ROW * bus_total(s) {
+        return 33;
+    }
+    lay_rows(s, table);
+    0
+}
