@@ -22,7 +22,7 @@ mul-table-2 : tie.Need-mul-table-2
 mul-table-2 c = search needs
 
 slice-write-table-2 : tie.Need-slice-write-table-2
-slice-write-table-2 c = 
+slice-write-table-2 c =
     let t = c .args .table .now in
     let at = c .args .at in
     let a = c .args .a in
@@ -35,7 +35,7 @@ mul-table-3 : tie.Need-mul-table-3
 mul-table-3 c = search needs
 
 slice-write-table-3 : tie.Need-slice-write-table-3
-slice-write-table-3 c = 
+slice-write-table-3 c =
     let t = c .args .table .now in
     let at = c .args .at in
     let a = c .args .a in
@@ -48,7 +48,7 @@ mul-table-4 : tie.Need-mul-table-4
 mul-table-4 c = search needs
 
 slice-write-table-4 : tie.Need-slice-write-table-4
-slice-write-table-4 c = 
+slice-write-table-4 c =
     let t = c .args .table .now in
     let at = c .args .at in
     let a = c .args .a in
@@ -61,7 +61,7 @@ mul-table-5 : tie.Need-mul-table-5
 mul-table-5 c = search needs
 
 slice-write-table-5 : tie.Need-slice-write-table-5
-slice-write-table-5 c = 
+slice-write-table-5 c =
     let t = c .args .table .now in
     let at = c .args .at in
     let a = c .args .a in
@@ -74,7 +74,7 @@ mul-table-6 : tie.Need-mul-table-6
 mul-table-6 c = search needs
 
 slice-write-table-6 : tie.Need-slice-write-table-6
-slice-write-table-6 c = 
+slice-write-table-6 c =
     let t = c .args .table .now in
     let at = c .args .at in
     let a = c .args .a in
@@ -84,7 +84,7 @@ same-length : tie.Need-same-length
 same-length c = search needs
 
 returns : tie.Need-returns
-returns c = 
+returns c =
     let at = c .args .at in
     let e1 : at + 1 ≡ suc at = omega arith in
     let e2 : at + 2 ≡ suc (suc at) = omega arith in
