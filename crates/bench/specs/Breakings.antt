@@ -8,7 +8,8 @@ use lib.IntN.{pos}
 use lib.Ieee.{Float, fin, binary64, add}
 use lib.ListN.{length}
 use Rattle.network.specs.Network.{Network}
-use Rattle.breaking.specs.Breaking.{breakingNumber, figureAfter, tableAfter}
+use Rattle.network.specs.Tables.{tableAfter}
+use Rattle.breaking.specs.Breaking.{breakingNumber, figureAfter}
 use Rattle.breaking.specs.Doubles.{partAt, tableOf, figureAt}
 
 -- one call: the table after it, and its figure

@@ -2,9 +2,9 @@
 -- grounds on which the call is refused. By order 5, "In the breaking current a unit is a generator with terminals on the low side."
 use Prim.Native.Nat.{ℕ, _*_}
 use mathlib.Core.Bool.{cond}
-use mathlib.Core.List.{List, [], _∷_, _++_}
+use mathlib.Core.List.{List, [], _∷_}
 use lib.Dec.{leb, ltb, eqb}
-use lib.ListN.{length, drop}
+use lib.ListN.{length}
 use lib.Ieee.{Float}
 use Rattle.enclosure.specs.Exact.{ofNat}
 use Rattle.enclosure.specs.Fraction.{Fraction, whole, product, quotient}
@@ -25,16 +25,10 @@ breakingGrounds n b delay room = on (n .closed) 22 ∷ on (ltb b (length (n .bus
 unfoldable pub breakingNumber : Network → ℕ → ℕ → ℕ → ℕ
 breakingNumber n b delay room = first (breakingGrounds n b delay room)
 
--- numbers laid at the start of a table; those beyond are kept
-abbrev pub laidOver : List Float → List Float → List Float
-laidOver numbers table = numbers ++ drop (length numbers) table
-
--- "A refusal gives the figure 0 and an untouched table": by the number of the call, what an accepted one gives, and the table lent
+-- "A refusal gives the figure 0 and an untouched table" (for the table, network.specs.Tables): by the number of the call, and what an
+-- accepted one gives
 unfoldable pub figureAfter : ℕ → Float → Float
 figureAfter number figure = cond (eqb number 0) figure (ofNat 0)
-
-unfoldable pub tableAfter : ℕ → List Float → List Float → List Float
-tableAfter number numbers table = cond (eqb number 0) (laidOver numbers table) table
 
 -- the square of the share that the source at place j has of the fault current at b; a converter is no machine and has none
 abbrev pub shareSquareAt : Network → ℕ → ℕ → Fraction

@@ -6,7 +6,8 @@ ghost use lib.ListN.{length};
 ghost use Rattle.elements.specs.BreakingFactor.{delayOk};
 ghost use Rattle.tree.specs.Limits.{maxSources};
 ghost use Rattle.network.specs.Network.{network};
-ghost use Rattle.breaking.specs.Breaking.{breakingNumber, figureAfter, tableAfter};
+ghost use Rattle.network.specs.Tables.{tableAfter};
+ghost use Rattle.breaking.specs.Breaking.{breakingNumber, figureAfter};
 ghost use Rattle.breaking.specs.Doubles.{numberAfter, partAt, tableOf, figureAt};
 ghost use Rattle.breaking.specs.Promise.{BreakingPromise};
 

@@ -3,7 +3,7 @@ ghost use mathlib.Core.Path.{_≡_};
 ghost use Prim.Native.Nat.{_*_, _≤_};
 ghost use lib.ListN.{length};
 ghost use Rattle.network.specs.Network.{network};
-ghost use Rattle.breaking.specs.Breaking.{laidOver};
+ghost use Rattle.network.specs.Tables.{laidOver};
 ghost use Rattle.breaking.specs.Doubles.{partOf, partAt, tableOf, stepsFrom};
 use crate::parts::Part;
 use crate::parts::drive;

@@ -13,7 +13,8 @@ use Rattle.reader.specs.declared.Numbers.{Numbers}
 use Rattle.reader.specs.File.{mostFields, busCountOk, sourceCountOk, fields, busOf, sourceOf, Outcome, readOf}
 use Rattle.reader.specs.Collected.{collected}
 use Rattle.writer.specs.Writing.{writeNumber, writeLength, afterWrite}
-use Rattle.breaking.specs.Breaking.{breakingNumber, figureAfter, tableAfter}
+use Rattle.network.specs.Tables.{tableAfter}
+use Rattle.breaking.specs.Breaking.{breakingNumber, figureAfter}
 use Rattle.breaking.specs.Doubles.{partAt, tableOf, figureAt}
 use Rattle.console.specs.declared.turns.Reason.{Reason}
 use Rattle.console.specs.declared.turns.Reason.the-variants.{Fields, Number, Hex, Room, Unknown, Long}

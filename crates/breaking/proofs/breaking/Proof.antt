@@ -9,7 +9,8 @@ use borrow.Author.Tests.{eq-eqb, ne-eqb}
 use Rattle.tree.specs.Limits.{maxSources}
 use Rattle.network.specs.Network.{Network, network}
 use Rattle.network.specs.laws.Arrays.{length-mapped}
-use Rattle.breaking.specs.Breaking.{breakingNumber, figureAfter, tableAfter}
+use Rattle.network.specs.Tables.{tableAfter}
+use Rattle.breaking.specs.Breaking.{breakingNumber, figureAfter}
 use Rattle.breaking.specs.Doubles.{partOf, partAt, tableOf, figureAt}
 use Rattle.breaking.specs.Promise.{BreakingPromise}
 use Rattle.breaking.specs.laws.Numbers.{number-in-order, accepted-room}

@@ -1,15 +1,16 @@
 -- What stands where in the table that is laid over a lent one, and the sum of the steps by places. Assumes nothing.
-use Prim.Native.Nat.{ℕ, zero, suc, _+_, _*_, _≤_, _<_}
-use mathlib.Core.Path.{_≡_, refl, sym, _∙_, ap}
-use mathlib.Core.List.{List, [], _∷_, _++_}
+use Prim.Native.Nat.{ℕ, zero, suc, _+_, _*_, _<_}
+use mathlib.Core.Path.{_≡_, refl, _∙_}
+use mathlib.Core.List.{List, [], _∷_}
 use native.Mathlib.Omega.{arith}
 use lib.Ieee.{Float, nan}
-use lib.ListN.{length, getD, drop, length-append, length-drop, List·getD-append}
+use lib.ListN.{length, getD}
 use Rattle.breaking.specs.laws.FigureSums.{sumOf}
 use Rattle.network.specs.declared.study.Source.{Source}
 use Rattle.network.specs.Network.{sourceAt}
+use Rattle.network.specs.laws.Tables.{laid-at}
 use Rattle.breaking.specs.declared.parts.Part.{Part}
-use Rattle.breaking.specs.Breaking.{laidOver}
+use Rattle.network.specs.Tables.{laidOver}
 use Rattle.breaking.specs.Doubles.{tableOf, stepsFrom}
 use Rattle.breaking.specs.laws.Tables.{table-length}
 
@@ -24,27 +25,13 @@ upper-at part [] j h = absurd (omega arith)
 upper-at part (p ∷ l) zero h = refl
 upper-at part (p ∷ l) (suc j) h = let e : 2 * suc j + 1 ≡ suc (suc (2 * j + 1)) = omega arith in rw e (upper-at part l j (omega arith))
 
--- ---- laid over a lent table with room for it
-drop-first : (l m : List Float) → drop (length l) (l ++ m) ≡ m
-drop-first [] m = refl
-drop-first (x ∷ l) m = drop-first l m
+-- ---- laid over a lent table
+module _ (part : Source → Part) (l : List Source) (lent : List Float) (j : ℕ) (h : j < length l) where
+  pub laid-lower : getD (laidOver (tableOf part l) lent) (2 * j) nan ≡ part (sourceAt l j) .lower
+  laid-lower = laid-at (tableOf part l) lent (2 * j) (omega (arith, table-length part l)) ∙ lower-at part l j h
 
-module _ (part : Source → Part) (l : List Source) (lent : List Float) (room : 2 * length l ≤ length lent) where
-  abbrev laid : List Float
-  laid = laidOver (tableOf part l) lent
-
-  pub laid-lower : (j : ℕ) → j < length l → getD laid (2 * j) nan ≡ part (sourceAt l j) .lower
-  laid-lower j h = List·getD-append (tableOf part l) _ nan (2 * j) (omega (arith, table-length part l)) ∙ lower-at part l j h
-
-  pub laid-upper : (j : ℕ) → j < length l → getD laid (2 * j + 1) nan ≡ part (sourceAt l j) .upper
-  laid-upper j h = List·getD-append (tableOf part l) _ nan (2 * j + 1) (omega (arith, table-length part l)) ∙ upper-at part l j h
-
-  pub laid-length : length laid ≡ length lent
-  laid-length = length-append (tableOf part l) _ ∙ omega (arith, length-drop (length (tableOf part l)) lent, table-length part l)
-
-  pub laid-beyond : drop (2 * length l) laid ≡ drop (2 * length l) lent
-  laid-beyond =
-      ap (λ (k : ℕ). drop k laid) (sym (table-length part l)) ∙ drop-first (tableOf part l) _ ∙ ap (λ (k : ℕ). drop k lent) (table-length part l)
+  pub laid-upper : getD (laidOver (tableOf part l) lent) (2 * j + 1) nan ≡ part (sourceAt l j) .upper
+  laid-upper = laid-at (tableOf part l) lent (2 * j + 1) (omega (arith, table-length part l)) ∙ upper-at part l j h
 
 -- ---- the sum of the steps
 sum-first : (m : ℕ) (g : ℕ → ℕ) → sumOf (suc m) g ≡ g 0 + sumOf m (λ j. g (suc j))

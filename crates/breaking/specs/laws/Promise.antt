@@ -1,6 +1,6 @@
 -- THE PROMISE OF `breaking` IS KEPT by the calculation as Doubles defines it, for whatever calls made the network. Assumes nothing.
 use Prim.Native.Nat.{ℕ, _+_, _*_, _^_, _≤_, _<_}
-use mathlib.Core.Path.{_≡_, refl, _∙_}
+use mathlib.Core.Path.{_≡_, refl, sym, _∙_}
 use mathlib.Core.Bool.{true}
 use mathlib.Core.List.{List, [], _∷_}
 use native.Mathlib.Omega.{arith}
@@ -23,10 +23,13 @@ use Rattle.network.specs.laws.AcceptedRecords.{few-sources, closed-source}
 use Rattle.network.specs.laws.Claim.{demand}
 use Rattle.network.specs.laws.Promise.{amperes-given}
 use Rattle.network.specs.laws.Shares.{machine-share-some}
-use Rattle.breaking.specs.Breaking.{breakingGrounds, breakingNumber, figureAfter, tableAfter, laidOver, shareSquareAt, convertersPart}
+use Rattle.network.specs.laws.Tables.{laid-length, laid-beyond}
+use Rattle.network.specs.Tables.{tableAfter, laidOver}
+use Rattle.breaking.specs.Breaking.{breakingGrounds, breakingNumber, figureAfter, shareSquareAt, convertersPart}
 use Rattle.breaking.specs.Doubles.{weighed, amperesUp, partAt, tableOf, stepsFrom, figureAt}
 use Rattle.breaking.specs.Promise.{BreakingHolds, BreakingPromise}
-use Rattle.breaking.specs.laws.Laid.{laid-lower, laid-upper, laid-length, laid-beyond, sum-same, steps-sum}
+use Rattle.breaking.specs.laws.Laid.{laid-lower, laid-upper, sum-same, steps-sum}
+use Rattle.breaking.specs.laws.Tables.{table-length}
 use Rattle.breaking.specs.laws.Sources.{lowerAt, upperAt, weightOf, weightOver, stepsOver, stepsUnder, lower-is, upper-is, steps-are, few-at, part-holds, numbers-hold, other-by, proper-q-at}
 
 -- ---- over plain numbers: √2 times the converters' part A/D is at most a peak c below 2 ^ 53, so that its bounds are well below that
@@ -83,22 +86,25 @@ module _ {n : Network} (r : Rebuilt n) (c : n .closed ≡ true) (b : ℕ) (lb : 
       rw (steps-same, asked .whole .«converters_upper», whole-few (amperesUp steps) (steps-less steps steps-few))
       (plus-whole (amperesUp steps) restUpper (steps-less steps steps-few) (omega (arith, figure-few)))
 
+  abbrev laid : List Float
+  laid = tableOf (partAt n b delay) (n .sources)
+
   -- WHAT THE CALCULATION GIVES HOLDS, laid over a table with room
-  pub breaking-holds : (lent : List Float) → 2 * places ≤ length lent → BreakingHolds n b delay lent (laidOver (tableOf (partAt n b delay) (n .sources)) lent) (figureAt n b delay)
+  pub breaking-holds : (lent : List Float) → 2 * places ≤ length lent → BreakingHolds n b delay lent (laidOver laid lent) (figureAt n b delay)
   breaking-holds lent room = record {
     lower = lowerAt n b;
     upper = upperAt n b;
     amperes = figureOf steps restUpper;
     numbers = λ j l. (
-      laid-lower (partAt n b delay) (n .sources) lent room j l ∙ lower-is r b delay j,
-      laid-upper (partAt n b delay) (n .sources) lent room j l ∙ upper-is r b delay j,
+      laid-lower (partAt n b delay) (n .sources) lent j l ∙ lower-is r b delay j,
+      laid-upper (partAt n b delay) (n .sources) lent j l ∙ upper-is r b delay j,
       few-at r b lb j l .0,
       few-at r b lb j l .1,
     );
     figure-whole = (figure-is, figure-few);
     shares = λ j l g. numbers-hold r b lb j l g;
     others = λ j l g. other-by (hasGenerator (sourceAt (n .sources) j)) _ g;
-    beyond = (laid-length (partAt n b delay) (n .sources) lent room, laid-beyond (partAt n b delay) (n .sources) lent room);
+    beyond = (laid-length laid lent (omega (arith, table-length (partAt n b delay) (n .sources))), laid-beyond laid lent (2 * places) (sym (table-length (partAt n b delay) (n .sources))));
     proper = λ j l. part-holds r b lb j l delay .proper;
     some = λ j l m. rw m (machine-share-some r b lb j l m);
     proper-q = λ j l g. proper-q-at r b lb j l g;

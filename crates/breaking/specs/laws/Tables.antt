@@ -9,7 +9,7 @@ use native.Mathlib.Numerals.{add-one}
 use native.Mathlib.Nat.{le-refl, le-trans, mul-le-mul}
 use lib.Dec.{leb, lit≤}
 use lib.ListN.{length, take, set, length-take}
-use lib.Seq.{take-suc, take-all, sets, sets-eq}
+use lib.Seq.{take-suc, take-all, sets}
 use lib.Ieee.{Float}
 use Rattle.enclosure.specs.Doubles.{nought, underRoot, rootFine}
 use Rattle.enclosure.specs.laws.Climb.{root-small}
@@ -20,10 +20,11 @@ use Rattle.tree.specs.Ways.{shareSteps, ratedSteps}
 use Rattle.network.specs.declared.study.Source.{Source}
 use Rattle.network.specs.Network.{sourceAt, blankSource}
 use Rattle.network.specs.laws.Arrays.{sets-append}
+use Rattle.network.specs.laws.Tables.{laid-sets}
 use Rattle.network.specs.SourceKinds.{hasGenerator, isConverter}
 use Rattle.network.specs.RoundedSourceKinds.{voltsSeen, kvaSeen}
 use Rattle.breaking.specs.declared.parts.Part.{Part}
-use Rattle.breaking.specs.Breaking.{laidOver}
+use Rattle.network.specs.Tables.{laidOver}
 use Rattle.breaking.specs.Doubles.{weighed, generatorPart, partBy, partOf, tableOf, stepsFrom}
 
 pub root-fine-few : (x : Float) → rootFine x < 2 ^ 53
@@ -95,7 +96,4 @@ module _ (part : Source → Part) (l : List Source) (j : ℕ) (h : j < length l)
 -- all of them laid
 pub table-all : (part : Source → Part) (l : List Source) (j : ℕ) (lent table : List Float) → length l ≤ j → 2 * length l ≤ length lent → table ≡ sets lent 0 (tableOf part (take j l))
     → table ≡ laidOver (tableOf part l) lent
-table-all part l j lent table m room q =
-    let n : 0 + length (tableOf part l) ≤ length lent = omega (arith, table-length part l) in
-    let z : 0 + length (tableOf part l) ≡ length (tableOf part l) = omega arith in
-    q ∙ rw (take-all j l m) (sets-eq (tableOf part l) lent 0 n ∙ rw z)
+table-all part l j lent table m room q = q ∙ rw (take-all j l m) (laid-sets (tableOf part l) lent (omega (arith, table-length part l)))

@@ -15,7 +15,8 @@ use Rattle.network.specs.declared.query.Found.{Found}
 use Rattle.reader.specs.declared.Numbers.{Numbers}
 use Rattle.reader.specs.File.{Outcome, readOf}
 use Rattle.writer.specs.Writing.{writeNumber, writeLength, afterWrite}
-use Rattle.breaking.specs.Breaking.{breakingNumber, figureAfter, tableAfter}
+use Rattle.network.specs.Tables.{tableAfter}
+use Rattle.breaking.specs.Breaking.{breakingNumber, figureAfter}
 use Rattle.breaking.specs.Doubles.{partAt, tableOf, figureAt}
 use Rattle.console.specs.declared.hex.Decoded.{Decoded}
 use Rattle.console.specs.declared.hex.Decoded.the-variants.{Bytes, Broken}

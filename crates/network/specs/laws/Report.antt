@@ -60,7 +60,7 @@ row-number row (suc k) b i h l =
 row-laid : (row : ℕ → Amperes) (k : ℕ) (lent : List Float) → 6 * k ≤ length lent → (b : ℕ) → b < k → rowIn (laidOver (rowsNumbers row k) lent) b ≡ row b
 row-laid row k lent room b h =
     let at : (i : ℕ) → i < 6 → getD (laidOver (rowsNumbers row k) lent) (6 * b + i) nan ≡ getD (rowNumbers (row b)) i nan =
-    λ i l. laid-at (rowsNumbers row k) lent (omega (arith, rows-length row k)) (6 * b + i) (omega (arith, rows-length row k)) ∙ row-number row k b i h l in
+    λ i l. laid-at (rowsNumbers row k) lent (6 * b + i) (omega (arith, rows-length row k)) ∙ row-number row k b i h l in
     let z : 6 * b + 0 ≡ 6 * b = omega arith in
     let first : getD (laidOver (rowsNumbers row k) lent) (6 * b) nan ≡ getD (rowNumbers (row b)) 0 nan = rw (← z) (at 0 (omega arith)) in
     rw (first, at 1 (omega arith), at 2 (omega arith), at 3 (omega arith), at 4 (omega arith), at 5 (omega arith))

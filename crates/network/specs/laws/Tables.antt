@@ -12,10 +12,11 @@ drop-first : (l m : List Float) → drop (length l) (l ++ m) ≡ m
 drop-first [] m = refl
 drop-first (x ∷ l) m = drop-first l m
 
-module _ (numbers lent : List Float) (room : length numbers ≤ length lent) where
-  pub laid-at : (i : ℕ) → i < length numbers → getD (laidOver numbers lent) i nan ≡ getD numbers i nan
-  laid-at i h = List·getD-append numbers _ nan i h
+pub laid-at : (numbers lent : List Float) (i : ℕ) → i < length numbers → getD (laidOver numbers lent) i nan ≡ getD numbers i nan
+laid-at numbers lent i h = List·getD-append numbers _ nan i h
 
+-- where there is room for them
+module _ (numbers lent : List Float) (room : length numbers ≤ length lent) where
   pub laid-length : length (laidOver numbers lent) ≡ length lent
   laid-length = length-append numbers _ ∙ omega (arith, length-drop (length numbers) lent)
 

@@ -5,7 +5,8 @@ use mathlib.Core.List.{List}
 use lib.ListN.{length, replicate, length-replicate}
 use lib.Ieee.{Float}
 use Rattle.network.specs.Network.{network}
-use Rattle.breaking.specs.Breaking.{breakingNumber, tableAfter}
+use Rattle.network.specs.Tables.{tableAfter}
+use Rattle.breaking.specs.Breaking.{breakingNumber}
 use Rattle.breaking.specs.Doubles.{partAt, tableOf}
 use Rattle.console.specs.Answers.{tableFiller}
 use borrow.Author.Needs.{needs}

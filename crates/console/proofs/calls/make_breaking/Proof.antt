@@ -5,7 +5,8 @@ use lib.ListN.{getD, replicate}
 use lib.Seq.{take-at}
 use borrow.Rule.Slice.PartMut.{mid-len}
 use Rattle.network.specs.Network.{network}
-use Rattle.breaking.specs.Breaking.{breakingNumber, tableAfter}
+use Rattle.network.specs.Tables.{tableAfter}
+use Rattle.breaking.specs.Breaking.{breakingNumber}
 use Rattle.breaking.specs.Doubles.{partAt, tableOf}
 use Rattle.console.specs.Answers.{tableFiller}
 use Rattle.console.specs.Effects.{exactly, breakingBy}
