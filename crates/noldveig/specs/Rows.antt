@@ -7,9 +7,10 @@ use lib.ListN.{length}
 use Rattle.network.specs.declared.query.Amperes.{Amperes}
 use Rattle.network.specs.declared.query.Verdict.{Verdict}
 use Rattle.printing.specs.Printed.{decimal, nextText, amperesText, letterText}
-use Rattle.network.specs.Network.{Network}
-use Rattle.network.specs.Query.{rowsGiven, rowAt}
-use Rattle.network.specs.declared.query.Found.{Found}
+use Rattle.enclosure.specs.Exact.{ofNat}
+use Rattle.network.specs.Network.{Network, busAt}
+use Rattle.network.specs.Doubles.{verdictOf}
+use Rattle.network.specs.Report.{reportedAt}
 use Rattle.reader.specs.File.{cr, lf, Outcome}
 
 abbrev pub crlf : List ℕ
@@ -27,13 +28,20 @@ busRow bus a v = decimal bus ++ amperesText a ++ letterText v ++ crlf
 unfoldable pub refusalRow : ℕ → ℕ → List ℕ
 refusalRow number row = refused ++ nextText number ++ nextText row ++ crlf
 
--- "per bus, from 0 up": the rows of the first k buses, and of all, with what a query of each gives
-unfoldable pub rowsText : List Found → ℕ → List ℕ
-rowsText rows zero = []
-rowsText rows (suc k) = rowsText rows k ++ busRow k (rowAt rows k .amperes) (rowAt rows k .verdict)
+-- "per bus, from 0 up": the row of bus b of a network, with what a report gives there and the verdict on it; those of the first k buses, and
+-- of all
+abbrev pub verdictBy : Network → ℕ → Amperes → Verdict
+verdictBy n b a = verdictOf a (ofNat (busAt (n .buses) b .rating)) (ofNat (busAt (n .buses) b .«peak_rating»))
+
+abbrev pub rowText : Network → ℕ → List ℕ
+rowText n b = busRow b (reportedAt n b) (verdictBy n b (reportedAt n b))
+
+unfoldable pub rowsText : Network → ℕ → List ℕ
+rowsText n zero = []
+rowsText n (suc k) = rowsText n k ++ rowText n k
 
 abbrev pub boardText : Network → List ℕ
-boardText n = rowsText (rowsGiven n) (length (n .buses))
+boardText n = rowsText n (length (n .buses))
 
 -- what is printed of a text that is read: its board, or its refusal
 unfoldable pub printed : Outcome → List ℕ

@@ -1,17 +1,25 @@
 // A study as text on standard input; on standard output a line for each bus, or the number and the row of a refusal. All that is printed
 // is laid into one array and written at once, so that it is one definition of the text.
 ghost use mathlib.Core.Path.{_≡_};
+ghost use mathlib.Core.Bool.{true};
 ghost use mathlib.Core.List.{_++_};
 ghost use Prim.Native.Nat.{_+_, _*_, _≤_};
 ghost use lib.ListN.{length, take};
 ghost use Rattle.network.specs.Network.{maxBuses, network};
+ghost use Rattle.network.specs.Report.{rowIn};
 ghost use Rattle.reader.specs.File.{readOf};
 ghost use Rattle.printing.specs.Line.{room};
 ghost use Rattle.noldveig.specs.Rows.{busRow, refusalRow, boardText, printed};
+use enclosure::amperes::Peak;
+use enclosure::amperes::Rms;
 use libc::STDIN_FILENO;
 use libc::STDOUT_FILENO;
-use network::query::Found;
-use network::query::query_all;
+use network::buses_of;
+use network::query::Amperes;
+use network::query::Verdict;
+use network::query::verdict_at;
+use network::report::ROW;
+use network::report::report;
 use network::study::BUSES;
 use network::study::Study;
 use network::study::bus_total;
@@ -25,6 +33,9 @@ use printing::written;
 
 // One byte more than a text may have, so that a longer one is seen to be longer.
 const TEXT: usize = 65_537;
+
+// Room for the numbers of a report on all buses.
+const TABLE: usize = BUSES * ROW;
 
 // Room for the rows of all buses.
 const OUTPUT: usize = BUSES * LINE;
@@ -42,14 +53,13 @@ fn put_refusal(line: &mut [u8; LINE], number: u32, row: u32) -> usize
 }
 
 // The same for the row of a bus.
-fn put_bus(line: &mut [u8; LINE], bus: u32, found: Found) -> usize
+fn put_bus(line: &mut [u8; LINE], bus: u32, amperes: Amperes, verdict: Verdict) -> usize
     requires { ⌜ length (now line) ≡ room ⌝ }
-    ensures { λ r. ⌜ take r (now (line .exit)) ≡ busRow bus (found .amperes) (found .verdict) ⌝ }
+    ensures { λ r. ⌜ take r (now (line .exit)) ≡ busRow bus amperes verdict ⌝ }
 {
-    let verdict = found.verdict;
     let number = put_number(line, 0, bus as u64);
-    let amperes = put_amperes(line, number, found.amperes);
-    let letter = put_letter(line, amperes, verdict);
+    let figures = put_amperes(line, number, amperes);
+    let letter = put_letter(line, figures, verdict);
     put(line, letter, b"\r\n")
 }
 
@@ -79,28 +89,49 @@ fn lay_refusal(out: &mut [u8], number: u32, row: u32) -> usize
 }
 
 // Lays the row of a bus from a place on, and gives the place behind it.
-fn lay_bus(out: &mut [u8], at: usize, bus: u32, found: Found) -> usize
+fn lay_bus(out: &mut [u8], at: usize, bus: u32, amperes: Amperes, verdict: Verdict) -> usize
     requires { ⌜ at + room ≤ length (now out) ⌝ }
     ensures place { λ r. ⌜ r ≤ at + room ⌝ }
-    ensures text { λ r. ⌜ take r (now (out .exit)) ≡ take at (now (out .entry)) ++ busRow bus (found .amperes) (found .verdict) ⌝ }
+    ensures text { λ r. ⌜ take r (now (out .exit)) ≡ take at (now (out .entry)) ++ busRow bus amperes verdict ⌝ }
 {
     let mut line = [0u8; LINE];
-    let end = put_bus(&mut line, bus, found);
+    let end = put_bus(&mut line, bus, amperes, verdict);
     lay(out, at, written(&line, end))
 }
 
-// Lays the rows of all buses, from one board.
+// The row of a bus in the table of a report.
+fn row_of(table: &[f64], b: usize) -> Amperes
+    requires { ⌜ 6 * b + 6 ≤ length (now table) ⌝ }
+    ensures { λ r. ⌜ r ≡ rowIn (now (table .entry)) b ⌝ }
+{
+    let at = ROW * b;
+    Amperes {
+        lower: Rms(table[at]),
+        upper: Rms(table[at + 1]),
+        converters_lower: Rms(table[at + 2]),
+        converters_upper: Rms(table[at + 3]),
+        peak: Peak(table[at + 4]),
+        converters_peak: Peak(table[at + 5]),
+    }
+}
+
+// Lays the rows of all buses of a closed study, from one report.
 fn lay_board(out: &mut [u8], s: Study) -> usize
     requires { ⌜ maxBuses * room ≤ length (now out) ⌝ }
+    requires { ⌜ network s .closed ≡ true ⌝ }
     ensures place { λ r. ⌜ r ≤ maxBuses * room ⌝ }
     ensures text { λ r. ⌜ take r (now (out .exit)) ≡ boardText (network s) ⌝ }
 {
+    let mut table = [0.0; TABLE];
+    report(s, &mut table);
     let total = bus_total(s);
-    let rows = query_all(s);
+    let buses = buses_of(s);
     let mut at: usize = 0;
     let mut b: usize = 0;
     while b < total {
-        at = lay_bus(out, at, b as u32, rows[b]);
+        let amperes = row_of(&table, b);
+        let verdict = verdict_at(buses[b], amperes);
+        at = lay_bus(out, at, b as u32, amperes, verdict);
         b += 1;
     }
     at

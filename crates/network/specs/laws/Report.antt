@@ -118,3 +118,12 @@ report-short n room e h = rw (e, lt-leb _ _ h)
 pub report-accepted : (n : Network) (room : ℕ) → n .closed ≡ true → 6 * length (n .buses) ≤ room → 0 ≡ reportNumber n room
 unfolding reportNumber
 report-accepted n room e h = rw (e, le-leb _ _ h)
+
+-- the rows of an accepted report, whatever the table was
+pub report-rows : (n : Network) (lent table : List Float) (number : ℕ) → number ≡ reportNumber n (length lent) → table ≡ tableAfter number (reported n) lent
+    → n .closed ≡ true → 6 * length (n .buses) ≤ length lent → (b : ℕ) → b < length (n .buses) → rowIn table b ≡ reportedAt n b
+unfolding tableAfter
+report-rows n lent table number e t c room b l =
+    let z : number ≡ 0 = e ∙ sym (report-accepted n (length lent) c room) in
+    let u : table ≡ laidOver (reported n) lent = t ∙ rw (eq-eqb number 0 z) in
+    ap (λ (x : List Float). rowIn x b) u ∙ row-laid (reportedAt n) (length (n .buses)) lent room b l

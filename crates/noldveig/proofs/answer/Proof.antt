@@ -1,9 +1,11 @@
 -- `noldveig::answer` meets its contract: the board of a text that is accepted, and the row of one that is refused. Assumes nothing.
-use mathlib.Core.Path.{_≡_, ap, _∙_}
+use mathlib.Core.Path.{_≡_, sym, ap, _∙_}
 use Prim.Native.Nat.{ℕ}
 use native.Mathlib.Omega.{arith}
 use borrow.Author.Needs.{needs}
+use Rattle.network.specs.Network.{Network}
 use Rattle.reader.specs.File.{readOf}
+use Rattle.reader.specs.laws.FileAsCalls.{read-closed}
 use Rattle.noldveig.specs.Rows.{boardText}
 use Rattle.noldveig.specs.laws.Rows.{printed-board, printed-refusal}
 use Rattle.noldveig.proofs.answer.Statement.{statement}
@@ -13,7 +15,12 @@ read-requires : tie.Need-read-requires
 read-requires c κs = search needs
 
 lay-board-requires : tie.Need-lay-board-requires
-lay-board-requires c κs = search needs
+lay-board-requires c κs =
+    let then = c .before .before in
+    let read = then .before .before .read .ensures in
+    let text = then .before .before .before .before .before .args .text .now in
+    let number : readOf text .number ≡ 0 = sym (read .0) ∙ then .if1 .taken in
+    (search needs, ap (λ (n : Network). n .closed) (read .1 .1 .0) ∙ read-closed text number)
 
 same-length : tie.Need-same-length
 same-length c = search needs

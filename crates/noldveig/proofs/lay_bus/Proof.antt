@@ -20,7 +20,7 @@ lay-requires c κs =
     let made = c .before .before .before in
     let start = made .before .before .before in
     let row = c .written .ensures ∙ made .put-bus .ensures in
-    omega (arith, ap length row, bus-fits (start .args .bus) (start .args .found .amperes) (start .args .found .verdict))
+    omega (arith, ap length row, bus-fits (start .args .bus) (start .args .amperes) (start .args .verdict))
 
 same-length : tie.Need-same-length
 same-length c = search needs
@@ -32,7 +32,7 @@ returns c =
     let made = written .before .before .before in
     let start = made .before .before .before in
     let row = written .written .ensures ∙ made .put-bus .ensures in
-    (omega (arith, lay .ensures .0, ap length row, bus-fits (start .args .bus) (start .args .found .amperes) (start .args .found .verdict)), lay .ensures .1 ∙ ap (λ (l : List ℕ). take (start .args .at) (start .args .out .now) ++ l) row)
+    (omega (arith, lay .ensures .0, ap length row, bus-fits (start .args .bus) (start .args .amperes) (start .args .verdict)), lay .ensures .1 ∙ ap (λ (l : List ℕ). take (start .args .at) (start .args .out .now) ++ l) row)
 
 pub lay-bus-spec : {M : Type 1} → statement M
 lay-bus-spec =

@@ -4,16 +4,15 @@ use mathlib.Core.Path.{_≡_, sym, _∙_}
 use native.Mathlib.Numerals.{add-one}
 use borrow.Author.Tests.{ne-eqb}
 use native.Mathlib.Omega.{arith}
-use mathlib.Core.List.{List, _++_}
+use mathlib.Core.List.{_++_}
 use lib.ListN.{length, length-append}
 use Rattle.network.specs.declared.query.Amperes.{Amperes}
 use Rattle.network.specs.declared.query.Verdict.{Verdict}
 use Rattle.printing.specs.laws.Printed.{decimal-length, next-length, amperes-length, letter-length}
 use Rattle.printing.specs.Line.{room}
-use Rattle.network.specs.Query.{rowAt}
-use Rattle.network.specs.declared.query.Found.{Found}
+use Rattle.network.specs.Network.{Network}
 use Rattle.reader.specs.File.{Outcome}
-use Rattle.noldveig.specs.Rows.{busRow, refusalRow, rowsText, boardText, printed}
+use Rattle.noldveig.specs.Rows.{busRow, refusalRow, rowText, rowsText, boardText, printed}
 
 -- ---- each fits a line
 pub bus-fits : (bus : ℕ) (a : Amperes) (v : Verdict) → length (busRow bus a v) ≤ room
@@ -25,9 +24,9 @@ unfolding refusalRow
 refusal-fits number row = simp length-append (omega (arith, next-length number, next-length row))
 
 -- ---- one row more, and the two cases of what is printed
-pub rows-more : (rows : List Found) (k : ℕ) → rowsText rows k ++ busRow k (rowAt rows k .amperes) (rowAt rows k .verdict) ≡ rowsText rows (k + 1)
+pub rows-more : (n : Network) (k : ℕ) → rowsText n k ++ rowText n k ≡ rowsText n (k + 1)
 unfolding rowsText
-rows-more rows k = rw (add-one k)
+rows-more n k = rw (add-one k)
 
 module _ (o : Outcome) (number : ℕ) (e : number ≡ o .number) where
   pub printed-board : number ≡ 0 → boardText (o .network) ≡ printed o
