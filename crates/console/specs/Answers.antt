@@ -86,6 +86,10 @@ numbersText (x ∷ numbers) = nextText (wholeOf x) ++ numbersText numbers
 unfoldable pub brokenLine : ℕ → Float → List Float → List ℕ
 brokenLine number figure lent = brokenHead number figure ++ numbersText lent ++ (lf ∷ [])
 
+-- ---- the answer to `report`: "the number and all ROOM lent numbers"
+unfoldable pub reportLine : ℕ → List Float → List ℕ
+reportLine number lent = decimal number ++ numbersText lent ++ (lf ∷ [])
+
 -- how many numbers fill a line
 abbrev pub few : ℕ
 few = 12

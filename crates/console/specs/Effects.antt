@@ -13,15 +13,16 @@ use Rattle.reader.specs.declared.Numbers.{Numbers}
 use Rattle.reader.specs.File.{mostFields, busCountOk, sourceCountOk, fields, busOf, sourceOf, Outcome, readOf}
 use Rattle.reader.specs.Collected.{collected}
 use Rattle.writer.specs.Writing.{writeNumber, writeLength, afterWrite}
+use Rattle.network.specs.Report.{reportNumber, reported}
 use Rattle.network.specs.Tables.{tableAfter}
 use Rattle.breaking.specs.Breaking.{breakingNumber, figureAfter}
 use Rattle.breaking.specs.Doubles.{partAt, tableOf, figureAt}
 use Rattle.console.specs.declared.turns.Reason.{Reason}
 use Rattle.console.specs.declared.turns.Reason.the-variants.{Fields, Number, Hex, Room, Unknown, Long}
 use Rattle.console.specs.declared.turns.Reply.{Reply}
-use Rattle.console.specs.declared.turns.Reply.the-variants.{Ground, Reading, Found, Written, Breaking, Error}
+use Rattle.console.specs.declared.turns.Reply.the-variants.{Ground, Reading, Found, Written, Breaking, Report, Error}
 use Rattle.console.specs.declared.turns.Turn.{Turn}
-use Rattle.console.specs.Answers.{errorLine, numberLine, readingLine, foundLine, writtenLine, brokenLine, filler, tableFiller}
+use Rattle.console.specs.Answers.{errorLine, numberLine, readingLine, foundLine, writtenLine, brokenLine, reportLine, filler, tableFiller}
 use Rattle.console.specs.Lines.{beginsWith, isWord, hexPairs, hexBytes}
 
 pub record Effect : Type 0 where
@@ -38,18 +39,19 @@ reasonText Room = 114 ∷ 111 ∷ 111 ∷ 109 ∷ []
 reasonText Unknown = 117 ∷ 110 ∷ 107 ∷ 110 ∷ 111 ∷ 119 ∷ 110 ∷ 32 ∷ 99 ∷ 97 ∷ 108 ∷ 108 ∷ []
 reasonText Long = 108 ∷ 105 ∷ 110 ∷ 101 ∷ 32 ∷ 116 ∷ 111 ∷ 111 ∷ 32 ∷ 108 ∷ 111 ∷ 110 ∷ 103 ∷ []
 
--- what calls are lent: the text of a writing, and the table of a breaking current
+-- what calls are lent: the text of a writing, and the table of a breaking current or of a report
 abbrev pub Lent : Type 0
 Lent = List ℕ × List Float
 
--- the line of a reply; of a writing it ends with the first bytes of the lent text, of a breaking current with the first numbers of the
--- lent table
+-- the line of a reply; of a writing it ends with the first bytes of the lent text, of a breaking current and of a report with the first
+-- numbers of the lent table
 abbrev pub replyLine : Lent → Reply → List ℕ
 replyLine lent (Ground number) = numberLine number
 replyLine lent (Reading number row) = readingLine number row
 replyLine lent (Found found) = foundLine found
 replyLine lent (Written number size count) = writtenLine number size (take count (lent .0))
 replyLine lent (Breaking number figure count) = brokenLine number figure (take count (lent .1))
+replyLine lent (Report number count) = reportLine number (take count (lent .1))
 replyLine lent (Error reason) = errorLine (reasonText reason)
 
 abbrev pub effectOf : Lent → Turn → Effect
@@ -139,6 +141,18 @@ breakingBy n v = cond (leb (getD v 2 0) 1100) (breakInto n (getD v 0 0) (getD v 
 abbrev pub breakingEffect : Network → List ℕ → Effect
 breakingEffect n rest = numbered (exactly 3) (breakingBy n) n (collected (fields rest))
 
+-- "`report,ROOM`": "all ROOM lent numbers"; "each number is 7 before the call"; "ROOM is at most 1,000"
+unfoldable pub reportInto : Network → ℕ → Effect
+reportInto n room =
+    let number = reportNumber n room in
+    record { answer = reportLine number (tableAfter number (reported n) (replicate room tableFiller)); network = n }
+
+abbrev pub reportBy : Network → List ℕ → Effect
+reportBy n v = cond (leb (getD v 0 0) 1000) (reportInto n (getD v 0 0)) (wrong Room n)
+
+abbrev pub reportEffect : Network → List ℕ → Effect
+reportEffect n rest = numbered (exactly 1) (reportBy n) n (collected (fields rest))
+
 -- the bytes of the words, each with its comma but `close`
 abbrev pub startWord : List ℕ
 startWord = 115 ∷ 116 ∷ 97 ∷ 114 ∷ 116 ∷ 44 ∷ []
@@ -164,6 +178,9 @@ writeWord = 119 ∷ 114 ∷ 105 ∷ 116 ∷ 101 ∷ 44 ∷ []
 abbrev pub breakingWord : List ℕ
 breakingWord = 98 ∷ 114 ∷ 101 ∷ 97 ∷ 107 ∷ 105 ∷ 110 ∷ 103 ∷ 44 ∷ []
 
+abbrev pub reportWord : List ℕ
+reportWord = 114 ∷ 101 ∷ 112 ∷ 111 ∷ 114 ∷ 116 ∷ 44 ∷ []
+
 -- THE EFFECT OF A LINE: by the word that it begins with, and what stands behind that
 abbrev pub behind : List ℕ → List ℕ → List ℕ
 behind word line = drop (length word) line
@@ -178,7 +195,8 @@ callEffect n line =
     (cond (beginsWith readWord line) (readEffect n (behind readWord line))
     (cond (beginsWith writeWord line) (writeEffect n (behind writeWord line))
     (cond (beginsWith breakingWord line) (breakingEffect n (behind breakingWord line))
-    (wrong Unknown n))))))))
+    (cond (beginsWith reportWord line) (reportEffect n (behind reportWord line))
+    (wrong Unknown n)))))))))
 
 -- "an input line has at most 140,000 bytes"
 unfoldable pub lineEffect : Network → List ℕ → Effect

@@ -12,6 +12,7 @@ use crate::parts::print_written;
 use crate::tables::TABLE;
 use crate::tables::first_numbers;
 use crate::tables::print_broken;
+use crate::tables::print_report;
 use crate::turns::Reason;
 use crate::turns::Reply;
 use libc::STDOUT_FILENO;
@@ -103,7 +104,8 @@ fn print_found(found: Found) {
     io::write_all(STDOUT_FILENO, written(&line, end));
 }
 
-// Writes the reply; of a writing it ends with the bytes that were lent, of a breaking current with the numbers that were lent.
+// Writes the reply; of a writing it ends with the bytes that were lent, of a breaking current and of a report with the numbers that were
+// lent.
 pub(crate) fn print_reply(reply: Reply, text: &[u8; TEXT], table: &[f64; TABLE]) {
     match reply {
         Reply::Ground(number) => print_number(number),
@@ -113,6 +115,7 @@ pub(crate) fn print_reply(reply: Reply, text: &[u8; TEXT], table: &[f64; TABLE])
         Reply::Breaking(number, figure, count) => {
             print_broken(number, figure, first_numbers(table, count))
         }
+        Reply::Report(number, count) => print_report(number, first_numbers(table, count)),
         Reply::Error(reason) => print_error(reason),
     }
 }

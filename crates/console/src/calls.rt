@@ -7,15 +7,17 @@ ghost use lib.ListN.{length, replicate};
 ghost use lib.Ieee.{Float};
 ghost use Rattle.network.specs.Network.{network};
 ghost use Rattle.writer.specs.Writing.{writeNumber, writeLength, afterWrite};
+ghost use Rattle.network.specs.Report.{reportNumber, reported};
 ghost use Rattle.network.specs.Tables.{tableAfter};
 ghost use Rattle.breaking.specs.Breaking.{breakingNumber, figureAfter};
 ghost use Rattle.breaking.specs.Doubles.{partAt, tableOf, figureAt};
 ghost use Rattle.console.specs.Answers.{filler, tableFiller};
-ghost use Rattle.console.specs.Effects.{Lent, effectOf, exactly, counted, reasonOf, startEffect, busEffect, sourceEffect, closeEffect, queryEffect, readEffect, writeEffect, breakingEffect, callEffect};
+ghost use Rattle.console.specs.Effects.{Lent, effectOf, exactly, counted, reasonOf, startEffect, busEffect, sourceEffect, closeEffect, queryEffect, readEffect, writeEffect, breakingEffect, reportEffect, callEffect};
 use crate::hex::Decoded;
 use crate::hex::TEXT;
 use crate::hex::decode;
 use crate::hex::text_of;
+use crate::tables::REPORT;
 use crate::tables::TABLE;
 use crate::tables::fill_table;
 use crate::turns::Reason;
@@ -27,6 +29,7 @@ use crate::words::after;
 use crate::words::begins;
 use crate::words::is;
 use breaking::BreakingAnswer;
+use network::report::report;
 use network::study::Study;
 use reader::MOST_FIELDS;
 use reader::Numbers;
@@ -195,6 +198,34 @@ fn make_breaking(s: Study, rest: &[u8], table: &mut [f64]) -> Turn
     failed(s, reason_of(n))
 }
 
+fn report_into(s: Study, table: &mut [f64]) -> u32
+    ensures number { λ r. ⌜ r ≡ reportNumber (network s) (length (now (table .entry))) ⌝ }
+    ensures table { λ r. ⌜ now (table .exit) ≡ tableAfter r (reported (network s)) (replicate (length (now (table .entry))) tableFiller) ⌝ }
+{
+    fill_table(table);
+    report(s, table)
+}
+
+fn make_report(s: Study, rest: &[u8], table: &mut [f64]) -> Turn
+    ensures study { λ r. ⌜ r .study ≡ s ⌝ }
+    ensures effect { λ r. ⌜ ((text : List ℕ) → length (now (table .entry)) ≡ 1100 → effectOf (text, now (table .exit)) r ≡ reportEffect (network s) (now (rest .entry))) ⌝ }
+{
+    let n = numbers_of(rest);
+    let v = n.values;
+    if takes(n, 1) {
+        let count = v[0] as usize;
+        if (count <= REPORT) & (count <= table.len()) {
+            let number = report_into(s, &mut table[0..count]);
+            return Turn {
+                reply: Reply::Report(number, count),
+                study: s,
+            };
+        }
+        return failed(s, Reason::Room);
+    }
+    failed(s, reason_of(n))
+}
+
 // The turn of the call that a line names.
 pub(crate) fn make_call(
     s: Study,
@@ -227,6 +258,9 @@ pub(crate) fn make_call(
     }
     if begins(line, b"breaking,") {
         return make_breaking(s, after(line, 9), table);
+    }
+    if begins(line, b"report,") {
+        return make_report(s, after(line, 7), table);
     }
     failed(s, Reason::Unknown)
 }

@@ -1,9 +1,9 @@
-// The table that `breaking` is lent, and its answer in parts: the head, then a few of the numbers at a time; LF comes last.
+// The table that `breaking` and `report` are lent, and their answers in parts: the head, then a few of the numbers at a time; LF comes last.
 ghost use mathlib.Core.Path.{_≡_};
 ghost use Prim.Native.Nat.{_*_, _≤_};
 ghost use lib.ListN.{length, take, replicate};
 ghost use Rattle.printing.specs.Line.{room, afterText};
-ghost use Rattle.printing.specs.Printed.{wholeOf, nextText};
+ghost use Rattle.printing.specs.Printed.{wholeOf, decimal, nextText};
 ghost use Rattle.console.specs.Answers.{tableFiller, brokenHead, numbersText, few, fewCount, fewOf};
 use libc::STDOUT_FILENO;
 use printing::LINE;
@@ -12,8 +12,10 @@ use printing::put_next;
 use printing::put_number;
 use printing::written;
 
-// The most numbers that a call is lent.
+// The most numbers that a call is lent, and the most that a report is.
 pub(crate) const TABLE: usize = 1_100;
+
+pub(crate) const REPORT: usize = 1_000;
 
 // How many numbers fill a line.
 const FEW: usize = 12;
@@ -76,6 +78,14 @@ fn put_broken(line: &mut [u8; LINE], number: u32, figure: f64) -> usize
     put_whole(line, ground, figure)
 }
 
+// The number of the ground alone.
+fn put_report(line: &mut [u8; LINE], number: u32) -> usize
+    requires { ⌜ length (now line) ≡ room ⌝ }
+    ensures { λ r. ⌜ take r (now (line .exit)) ≡ decimal number ⌝ }
+{
+    put_number(line, 0, number as u64)
+}
+
 // A few of the numbers.
 fn put_few(line: &mut [u8; LINE], table: &[f64], k: usize) -> usize
     requires { ⌜ length (now line) ≡ room ⌝ }
@@ -98,6 +108,12 @@ fn write_broken(number: u32, figure: f64) {
     io::write_all(STDOUT_FILENO, written(&line, end));
 }
 
+fn write_report(number: u32) {
+    let mut line = [0u8; LINE];
+    let end = put_report(&mut line, number);
+    io::write_all(STDOUT_FILENO, written(&line, end));
+}
+
 fn write_few(table: &[f64], k: usize)
     requires { ⌜ k * few ≤ length (now table) ⌝ }
 {
@@ -115,9 +131,15 @@ fn write_numbers(table: &[f64]) {
     }
 }
 
-// What a call gave that was lent a table, and all of its numbers after it.
+// What a call gave that was lent a table, and all of its numbers after it: of a breaking current, and of a report.
 pub(crate) fn print_broken(number: u32, figure: f64, lent: &[f64]) {
     write_broken(number, figure);
+    write_numbers(lent);
+    io::write_all(STDOUT_FILENO, b"\n");
+}
+
+pub(crate) fn print_report(number: u32, lent: &[f64]) {
+    write_report(number);
     write_numbers(lent);
     io::write_all(STDOUT_FILENO, b"\n");
 }

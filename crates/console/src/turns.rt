@@ -17,13 +17,14 @@ pub(crate) enum Reason {
 }
 
 // What a line is answered with. Of a writing: the number, the length of the text, and how many bytes were lent. Of a breaking
-// current: the number, the figure, and how many numbers were lent.
+// current: the number, the figure, and how many numbers were lent. Of a report: the number, and how many numbers were lent.
 pub(crate) enum Reply {
     Ground(u32),
     Reading(u32, u32),
     Found(Found),
     Written(u32, usize, usize),
     Breaking(u32, f64, usize),
+    Report(u32, usize),
     Error(Reason),
 }
 

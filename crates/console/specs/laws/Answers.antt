@@ -93,6 +93,9 @@ pub broken-head-fits : (number : ℕ) (figure : Float) → length (brokenHead nu
 unfolding brokenHead
 broken-head-fits number figure = simp length-append (omega (arith, decimal-length number, next-length (wholeOf figure)))
 
+pub decimal-fits : (number : ℕ) → length (decimal number) ≤ room
+decimal-fits number = omega (arith, decimal-length number)
+
 numbers-length : (numbers : List Float) → length (numbersText numbers) ≤ 21 * length numbers
 unfolding numbersText
 numbers-length [] = omega arith

@@ -7,7 +7,7 @@ use native.Mathlib.Omega.{arith}
 use lib.Dec.{leb}
 use lib.ListN.{length, take, getD, replicate}
 use lib.Ieee.{Float}
-use borrow.Author.Tests.{leb-true, le-leb, lt-leb, lt-ltb, le-ltb}
+use borrow.Author.Tests.{leb-true, leb-false, le-leb, lt-leb, lt-ltb, le-ltb}
 use Rattle.network.specs.laws.Tests.{by-test, both-true}
 use Rattle.network.specs.Network.{Network}
 use Rattle.network.specs.Query.{queryNumber, amperesGiven, verdictGiven, foundGiven}
@@ -15,6 +15,7 @@ use Rattle.network.specs.declared.query.Found.{Found}
 use Rattle.reader.specs.declared.Numbers.{Numbers}
 use Rattle.reader.specs.File.{Outcome, readOf}
 use Rattle.writer.specs.Writing.{writeNumber, writeLength, afterWrite}
+use Rattle.network.specs.Report.{reportNumber, reported}
 use Rattle.network.specs.Tables.{tableAfter}
 use Rattle.breaking.specs.Breaking.{breakingNumber, figureAfter}
 use Rattle.breaking.specs.Doubles.{partAt, tableOf, figureAt}
@@ -22,9 +23,9 @@ use Rattle.console.specs.declared.hex.Decoded.{Decoded}
 use Rattle.console.specs.declared.hex.Decoded.the-variants.{Bytes, Broken}
 use Rattle.console.specs.declared.turns.Reason.{Reason}
 use Rattle.console.specs.declared.turns.Reason.the-variants.{Hex, Room, Unknown, Long}
-use Rattle.console.specs.Answers.{readingLine, writtenLine, brokenLine, filler, tableFiller}
+use Rattle.console.specs.Answers.{readingLine, writtenLine, brokenLine, reportLine, filler, tableFiller}
 use Rattle.console.specs.Lines.{beginsWith, isWord, hexPairs, hexBytes, decodedOf}
-use Rattle.console.specs.Effects.{Effect, wrong, counted, reasonOf, numbered, startEffect, busEffect, sourceEffect, closeEffect, queryEffect, readBy, readEffect, writeInto, writeBy, writeEffect, breakInto, breakingBy, breakingEffect, startWord, busWord, sourceWord, closeWord, queryWord, readWord, writeWord, breakingWord, behind, callEffect, lineEffect}
+use Rattle.console.specs.Effects.{Effect, wrong, counted, reasonOf, numbered, startEffect, busEffect, sourceEffect, closeEffect, queryEffect, readBy, readEffect, writeInto, writeBy, writeEffect, breakInto, breakingBy, breakingEffect, reportInto, reportBy, reportEffect, startWord, busWord, sourceWord, closeWord, queryWord, readWord, writeWord, breakingWord, reportWord, behind, callEffect, lineEffect}
 
 -- ---- so many numbers, or not; v are those that the code has
 module _ (wanted : ℕ → Bool) (call : List ℕ → Effect) (n : Network) (v w : Numbers) (e : v ≡ w) (t : Bool) (h : t ≡ counted v wanted) where
@@ -94,6 +95,30 @@ module _ (n : Network) where
   pub table-refused : (v : List ℕ) → 1100 < getD v 2 0 → wrong Room n ≡ breakingBy n v
   table-refused v h = rw (lt-leb (getD v 2 0) 1100 h)
 
+-- ---- a report: its parts, and the room that is lent; the table has more
+pub report-within : (k l : ℕ) → (leb k 1000 && leb k l) ≡ true → (k ≤ 1000) × (k ≤ l)
+report-within k l e = let p = both-true (leb k 1000) (leb k l) e in (leb-true k 1000 (p .0), leb-true k l (p .1))
+
+pub report-over : (k l : ℕ) → (leb k 1000 && leb k l) ≡ false → 1000 ≤ l → 1000 < k
+report-over k l e h =
+    by-test (leb k 1000)
+    (λ t.
+    let p : leb k l ≡ false = rw t at e in
+    absurd (let m = leb-true k 1000 t in let o = leb-false k l p in omega arith))
+    (λ t. leb-false k 1000 t)
+
+module _ (n : Network) where
+  pub report-parts : (room number : ℕ) (lent : List Float) → number ≡ reportNumber n room → lent ≡ tableAfter number (reported n) (replicate room tableFiller)
+      → record { answer = reportLine number lent; network = n } ≡ reportInto n room
+  unfolding reportInto
+  report-parts room number lent p r = rw (r, p)
+
+  pub report-lent : (v : List ℕ) → getD v 0 0 ≤ 1000 → reportInto n (getD v 0 0) ≡ reportBy n v
+  report-lent v h = rw (le-leb (getD v 0 0) 1000 h)
+
+  pub report-refused : (v : List ℕ) → 1000 < getD v 0 0 → wrong Room n ≡ reportBy n v
+  report-refused v h = rw (lt-leb (getD v 0 0) 1000 h)
+
 -- ---- the word that a line begins with: none of those before it, and this one
 module _ (n : Network) (line : List ℕ) where
   pub call-start : beginsWith startWord line ≡ true → startEffect n (behind startWord line) ≡ callEffect n line
@@ -135,9 +160,14 @@ module _ (n : Network) (line : List ℕ) where
                 unfolding callEffect
                 call-breaking e = rw (a, b, d, f, g, h, i, e)
 
-                pub call-unknown : beginsWith breakingWord line ≡ false → wrong Unknown n ≡ callEffect n line
-                unfolding callEffect
-                call-unknown e = rw (a, b, d, f, g, h, i, e)
+                module _ (j : beginsWith breakingWord line ≡ false) where
+                  pub call-report : beginsWith reportWord line ≡ true → reportEffect n (behind reportWord line) ≡ callEffect n line
+                  unfolding callEffect
+                  call-report e = rw (a, b, d, f, g, h, i, j, e)
+
+                  pub call-unknown : beginsWith reportWord line ≡ false → wrong Unknown n ≡ callEffect n line
+                  unfolding callEffect
+                  call-unknown e = rw (a, b, d, f, g, h, i, j, e)
 
   -- ---- the length of a line
   pub line-long : 140000 < length line → wrong Long n ≡ lineEffect n line

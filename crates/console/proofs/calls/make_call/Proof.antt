@@ -3,8 +3,8 @@ use mathlib.Core.Path.{_≡_, _∙_, sym, ap}
 use mathlib.Core.Bool.{false}
 use Rattle.network.specs.Network.{network}
 use Rattle.console.specs.Lines.{beginsWith, isWord}
-use Rattle.console.specs.Effects.{startEffect, busEffect, sourceEffect, queryEffect, readEffect, writeEffect, breakingEffect, startWord, busWord, sourceWord, closeWord, queryWord, readWord, writeWord, breakingWord}
-use Rattle.console.specs.laws.EffectsLaw.{call-start, call-bus, call-source, call-close, call-query, call-read, call-write, call-breaking, call-unknown}
+use Rattle.console.specs.Effects.{startEffect, busEffect, sourceEffect, queryEffect, readEffect, writeEffect, breakingEffect, reportEffect, startWord, busWord, sourceWord, closeWord, queryWord, readWord, writeWord, breakingWord, reportWord}
+use Rattle.console.specs.laws.EffectsLaw.{call-start, call-bus, call-source, call-close, call-query, call-read, call-write, call-breaking, call-report, call-unknown}
 use borrow.Author.Needs.{needs}
 use Rattle.console.proofs.calls.make_call.Statement.{statement}
 use Rattle.console.proofs.calls.make_call.Tie as tie
@@ -57,6 +57,12 @@ entry8 c = entry7 (c .before .before .before)
 
 not-breaking : (c : tie.Else8) → beginsWith breakingWord (entry8 c .args .line .now) ≡ false
 not-breaking c = sym (c .before .begins7 .ensures) ∙ c .if8 .left
+
+abbrev entry9 : tie.Else9 → tie.Start
+entry9 c = entry8 (c .before .before .before)
+
+not-report : (c : tie.Else9) → beginsWith reportWord (entry9 c .args .line .now) ≡ false
+not-report c = sym (c .before .begins8 .ensures) ∙ c .if9 .left
 
 slice-aggregate-begins : tie.Need-slice-aggregate-begins
 slice-aggregate-begins c = search needs
@@ -214,14 +220,34 @@ returns-8 c =
     let n = network (a .s) in
     λ h k. c .make-breaking .ensures .1 _ k ∙ ap (breakingEffect n) (c .before .before .after7 .ensures) ∙ call-breaking n (a .line .now) (not-start (past .before .before .before .before .before .before .before .before .before .before .before .before .before .before .before .before .before .before)) (not-bus (past .before .before .before .before .before .before .before .before .before .before .before .before .before .before .before)) (not-source (past .before .before .before .before .before .before .before .before .before .before .before .before)) (not-close (past .before .before .before .before .before .before .before .before .before)) (not-query (past .before .before .before .before .before .before)) (not-read (past .before .before .before)) (not-write (past)) (sym (then .before .begins7 .ensures) ∙ then .if8 .taken)
 
-failed-requires : tie.Need-failed-requires
-failed-requires c κs = search needs
+slice-aggregate-begins-8 : tie.Need-slice-aggregate-begins-8
+slice-aggregate-begins-8 c = search needs
+
+begins-requires-8 : tie.Need-begins-requires-8
+begins-requires-8 c κs = search needs
+
+after-requires-8 : tie.Need-after-requires-8
+after-requires-8 c κs = search needs
+
+make-report-requires : tie.Need-make-report-requires
+make-report-requires c κs = search needs
 
 returns-9 : tie.Need-returns-9
 returns-9 c =
-    let past = c .before in
+    let then = c .before .before .before in
+    let past = then .before .before .before in
     let a = entry8 past .args in
-    λ h k. c .failed .ensures .1 _ ∙ call-unknown (network (a .s)) (a .line .now) (not-start (past .before .before .before .before .before .before .before .before .before .before .before .before .before .before .before .before .before .before .before .before .before)) (not-bus (past .before .before .before .before .before .before .before .before .before .before .before .before .before .before .before .before .before .before)) (not-source (past .before .before .before .before .before .before .before .before .before .before .before .before .before .before .before)) (not-close (past .before .before .before .before .before .before .before .before .before .before .before .before)) (not-query (past .before .before .before .before .before .before .before .before .before)) (not-read (past .before .before .before .before .before .before)) (not-write (past .before .before .before)) (not-breaking (past))
+    let n = network (a .s) in
+    λ h k. c .make-report .ensures .1 _ k ∙ ap (reportEffect n) (c .before .before .after8 .ensures) ∙ call-report n (a .line .now) (not-start (past .before .before .before .before .before .before .before .before .before .before .before .before .before .before .before .before .before .before .before .before .before)) (not-bus (past .before .before .before .before .before .before .before .before .before .before .before .before .before .before .before .before .before .before)) (not-source (past .before .before .before .before .before .before .before .before .before .before .before .before .before .before .before)) (not-close (past .before .before .before .before .before .before .before .before .before .before .before .before)) (not-query (past .before .before .before .before .before .before .before .before .before)) (not-read (past .before .before .before .before .before .before)) (not-write (past .before .before .before)) (not-breaking (past)) (sym (then .before .begins8 .ensures) ∙ then .if9 .taken)
+
+failed-requires : tie.Need-failed-requires
+failed-requires c κs = search needs
+
+returns-10 : tie.Need-returns-10
+returns-10 c =
+    let past = c .before in
+    let a = entry9 past .args in
+    λ h k. c .failed .ensures .1 _ ∙ call-unknown (network (a .s)) (a .line .now) (not-start (past .before .before .before .before .before .before .before .before .before .before .before .before .before .before .before .before .before .before .before .before .before .before .before .before)) (not-bus (past .before .before .before .before .before .before .before .before .before .before .before .before .before .before .before .before .before .before .before .before .before)) (not-source (past .before .before .before .before .before .before .before .before .before .before .before .before .before .before .before .before .before .before)) (not-close (past .before .before .before .before .before .before .before .before .before .before .before .before .before .before .before)) (not-query (past .before .before .before .before .before .before .before .before .before .before .before .before)) (not-read (past .before .before .before .before .before .before .before .before .before)) (not-write (past .before .before .before .before .before .before)) (not-breaking (past .before .before .before)) (not-report (past))
 
 pub make-call-spec : {M : Type 1} → statement M
 make-call-spec =
@@ -266,5 +292,10 @@ make-call-spec =
     after-requires-7
     make-breaking-requires
     returns-8
+    slice-aggregate-begins-8
+    begins-requires-8
+    after-requires-8
+    make-report-requires
+    returns-9
     failed-requires
-    returns-9)
+    returns-10)
