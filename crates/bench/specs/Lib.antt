@@ -1,4 +1,5 @@
 pub mod Queries
-pub mod Boards
+pub mod Reports
+pub mod Closings
 pub mod Breakings
 pub mod Writes

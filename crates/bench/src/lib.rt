@@ -1,25 +1,24 @@
-// What C times: the operations of enclosing arithmetic (bench/enclosure.c), where a point goes in and comes out by its parts, reading
+// What is timed. By C: the operations of enclosing arithmetic (bench/enclosure.c), where a point goes in and comes out by its parts, reading
 // and querying a study (bench/queries.c), all its buses together (bench/boards.c), breaking currents (bench/breakings.c), and writing
-// it (bench/writes.c).
+// it (bench/writes.c). By tests/check-report: a study that is closed again and again, and then reported or queried (module closings).
 ghost use mathlib.Core.Path.{_≡_};
-ghost use Prim.Native.Nat.{_<_, _≤_, _+_};
+ghost use Prim.Native.Nat.{_<_, _+_};
 ghost use Rattle.enclosure.specs.Doubles.{added, inverted, scaled, rootBelow};
-ghost use Rattle.network.specs.Network.{maxBuses};
 ghost use Rattle.network.specs.Network.{network};
 ghost use Rattle.reader.specs.File.{readOf};
-ghost use Rattle.bench.specs.Boards.{rowsAdded, boardsOf};
 ghost use Rattle.bench.specs.Breakings.{brokenTimes};
 ghost use Rattle.bench.specs.Queries.{sumOf, sumsOf};
+ghost use Rattle.bench.specs.Reports.{numbersAdded, reportedTimes};
 ghost use Rattle.bench.specs.Writes.{writtenTimes};
+
+pub mod closings;
+
 use breaking::breaking;
 use enclosure::Complex;
 use network::query::Amperes;
-use network::query::Found;
 use network::query::query;
-use network::query::query_all;
-use network::study::BUSES;
+use network::report::report;
 use network::study::Study;
-use network::study::bus_total;
 use writer::write;
 
 #[no_mangle]
@@ -57,7 +56,7 @@ pub extern "C" fn enclosure_root_below(m: f64) -> u64
 }
 
 // The six figures of an answer, added up: a figure that is not used would not be calculated.
-fn sum_of(a: Amperes) -> f64
+pub(crate) fn sum_of(a: Amperes) -> f64
     ensures { λ r. ⌜ r ≡ sumOf a ⌝ }
 {
     a.lower.0
@@ -93,43 +92,40 @@ pub extern "C" fn network_sums(text: &[u8], last: u8, k: u32) -> f64
     sums(reading.study, n, k)
 }
 
-// The figures of the first n rows of a board, added to a total.
-fn with_rows(start: f64, rows: [Found; BUSES], n: usize) -> f64
-    requires { ⌜ n ≤ maxBuses ⌝ }
-    ensures { λ r. ⌜ r ≡ rowsAdded start rows n ⌝ }
+// The numbers of a table, added to a total.
+pub(crate) fn with_numbers(start: f64, table: &[f64]) -> f64
+    ensures { λ r. ⌜ r ≡ numbersAdded start (now (table .entry)) ⌝ }
 {
     let mut total = start;
     let mut i: usize = 0;
-    while i < n {
-        let found = rows[i];
-        total = total + sum_of(found.amperes);
+    while i < table.len() {
+        total = total + table[i];
         i += 1;
     }
     total
 }
 
-// The figures of k boards of a study, each calculated anew, added up over the buses that there are.
-fn boards(s: Study, k: u32) -> f64
-    ensures { λ r. ⌜ r ≡ boardsOf (network s) k ⌝ }
+// k reports of a study, all into one table: the numbers of the table after each, added up.
+fn reports(s: Study, table: &mut [f64], k: u32) -> f64
+    ensures { λ r. ⌜ reportedTimes (network s) (now (table .entry)) k ≡ (now (table .exit), r) ⌝ }
 {
-    let n = bus_total(s);
     let mut total = 0.0;
     let mut i: u32 = 0;
     while i < k {
-        let rows = query_all(s);
-        total = with_rows(total, rows, n);
+        report(s, table);
+        total = with_numbers(total, table);
         i += 1;
     }
     total
 }
 
-// A text read, and k boards of its study.
+// A text read, and k reports of its study.
 #[no_mangle]
-pub extern "C" fn network_boards(text: &[u8], k: u32) -> f64
-    ensures { λ r. ⌜ r ≡ boardsOf (readOf (now (text .entry)) .network) k ⌝ }
+pub extern "C" fn network_reports(text: &[u8], table: &mut [f64], k: u32) -> f64
+    ensures { λ r. ⌜ reportedTimes (readOf (now (text .entry)) .network) (now (table .entry)) k ≡ (now (table .exit), r) ⌝ }
 {
     let reading = reader::read(text);
-    boards(reading.study, k)
+    reports(reading.study, table, k)
 }
 
 // A study written k times into the buffer; the length that the last writing reported.
