@@ -1,7 +1,7 @@
 """Which calls and which files are accepted, with number and row; a study as text.
 
 Written from document 01 alone ("The study", "The file" and the two lists of
-grounds) and from orders 1 to 3 and 5 of document 02.  A Study is never changed:
+grounds) and from orders 1 to 3, 5 and 7 of document 02.  A Study is never changed:
 each call gives its number and the study after it, so that a refused call gives
 back the study it was made on.
 """
@@ -27,8 +27,10 @@ TEXT_BYTES = 65536
 # How many numbers a row may have; a source's seven stand for twelve
 COUNTS = {b"S": (1,), b"B": (10,), b"P": (7, 12)}
 FORM = 16
-NOT_CLOSED, TOO_SHORT, NO_DELAY = 22, 30, 31
+NOT_CLOSED, TOO_SHORT, NO_DELAY, SHORT_REPORT = 22, 30, 31, 33
 DELAYS = 20, 50, 100, 250
+# How many amperes a report has for each bus
+ROW = 6
 
 
 def within(value, low, high):
@@ -96,6 +98,14 @@ class Study:
         yield 15, bus >= len(self.buses)
         yield NO_DELAY, delay not in DELAYS
         yield TOO_SHORT, room < 2 * len(self.sources)
+
+    def report(self, room):
+        """The number alone, as for a query; `room` is the length of the lent table."""
+        return first_true(self.report_grounds(room))
+
+    def report_grounds(self, room):
+        yield NOT_CLOSED, not self.closed
+        yield SHORT_REPORT, room < ROW * len(self.buses)
 
     def write(self, lent):
         """Number, length and the lent bytes after the call; it does not change the study."""

@@ -2,8 +2,8 @@
 
 A call is a tuple: ("start", tolerance), ("bus", ten numbers), ("source", seven
 or twelve numbers), ("close",), ("query", bus), ("breaking", bus, delay, room),
-("write", room), ("read", bytes), ("read capitals", bytes), the same in capital
-digits, or ("other", line) for a line that is no call at all.
+("report", room), ("write", room), ("read", bytes), ("read capitals", bytes), the
+same in capital digits, or ("other", line) for a line that is no call at all.
 """
 
 from accept import BUSES, BUSES_BEFORE, SOURCES, SOURCES_BEFORE
@@ -17,8 +17,9 @@ from unit_networks import add_units, some_filled
 MOST_ROOM = 70_000
 FILL = b"\x55"
 
-# A breaking gets a table of so many numbers at most, each of them this one.
+# Tables of so many numbers at most are lent to a breaking and to a report, each number filled in.
 MOST_TABLE = 1_100
+MOST_REPORT = 1_000
 TABLE_FILL = 7
 
 NO_CALLS = [
@@ -71,6 +72,27 @@ NO_CALLS = [
     "Breaking,0,20,10",
     "breakings,0,20,10",
     "break,0,20,10",
+    "report",
+    "report,",
+    "report,x",
+    "report,-6",
+    "report,+6",
+    "report,06",
+    "report,6 ",
+    "report, 6",
+    "report,6,",
+    "report,,6",
+    "report,6,0",
+    "report,0,6",
+    "report,0,20,6",
+    f"report,{MOST_REPORT + 1}",
+    f"report,{MOST_TABLE}",
+    f"report,{GREATEST}",
+    "report,4294967296",
+    "Report,6",
+    "REPORT,6",
+    "reports,6",
+    "repor,6",
     "read",
     "read,0",
     "read,0g",
@@ -89,6 +111,8 @@ NO_CALLS = [
     "close;",
     "query;0",
     "breaking;0,20,10",
+    "report;6",
+    "report 6",
     "write;5",
     "read;" + SMALL.hex(),
     # the bytes beside 0 to 9, A to F and a to f, in either place of a pair
@@ -239,7 +263,8 @@ def other_lines():
 
 def at_once():
     """Calls before any start: an empty open study of tolerance 6."""
-    return [("query", 0), ("write", 0), ("write", 100), ("close",), *BUILD_LOW]
+    tries = [("query", 0), ("write", 0), ("write", 100), ("report", 0), ("report", 6)]
+    return [*tries, ("close",), *BUILD_LOW, ("report", 6)]
 
 
 FIXED = [states, refused_starts, files_between, full_tables, companies, depths, other_lines]

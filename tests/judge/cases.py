@@ -7,7 +7,7 @@ a Checker, so that networks alike in all but their converters meet in one unit.
 from random import Random
 from typing import NamedTuple, Optional
 
-from accept import Study
+from accept import ROW, Study
 from breakings import BROKEN, breaking_calls, breakings, drawn_breakings, fixed_breakings
 from breakings import low_breakings
 from calls import FIXED, as_calls, at_once, drawn_calls, line_of, queries, states
@@ -18,6 +18,7 @@ from networks import any_network, border_ratings, with_more_converters, with_rat
 from networks import without_converters, write_file
 from reactance_networks import fixed_reactance_networks, low_impedances
 from refusals import near_misses
+from reports import REPORTED, buses_of, drawn_reports, fixed_reports, report_plans
 from texts import greatest_numbers, meant_texts, spoil, truncations
 from unit_networks import with_units
 from writes import WRITTEN, back_calls, drawn_writing, first_calls, fixed_writings
@@ -78,7 +79,13 @@ def file_case(name, text):
 def network_case(name, tolerance, rows, text=None):
     """A network's file, drawn so as to be accepted; whether it is, the checker finds out."""
     text = text or write_file(tolerance, rows)
-    return Case(name, [("read", text), *queries(sum(row[0] == "B" for row in rows))], text)
+    return Case(name, [("read", text), *queries(buses_of(rows))], text)
+
+
+def reported_case(*network):
+    """The same with a report of all buses behind the queries."""
+    case = network_case(*network)
+    return case._replace(calls=[*case.calls, ("report", ROW * buses_of(network[2]))])
 
 
 def network_plan(name, draft, seed, rounds=1, by_program=False):
@@ -90,9 +97,9 @@ def network_cases(plan):
     bare = without_converters(plan.rows)
     more = with_more_converters(Random(plan.seed), plan.rows)
     return [
-        network_case(plan.name, plan.tolerance, plan.rows, plan.text),
-        network_case(plan.name + ", without converters", plan.tolerance, bare),
-        network_case(plan.name + ", with more converters", plan.tolerance, more),
+        reported_case(plan.name, plan.tolerance, plan.rows, plan.text),
+        reported_case(plan.name + ", without converters", plan.tolerance, bare),
+        reported_case(plan.name + ", with more converters", plan.tolerance, more),
     ]
 
 
@@ -132,7 +139,8 @@ def fixed_units():
     for i, (name, draft) in enumerate(fixed_networks()):
         small = len(draft.buses) <= 3 and not name.startswith("feeder")
         plans.append(network_plan(name, draft, i, 21 if small else 1, i % 4 == 0 or small))
-    return units + [Unit([], part) for part in chunks(plans, 8)] + reactance_units()
+    units += [Unit([], part) for part in chunks(plans, 8)]
+    return units + reactance_units() + report_units()
 
 
 def reactance_units():
@@ -155,9 +163,22 @@ def breaking_case(plan):
     return Case(f"breaking: {plan.name}", calls, calls[0][1])
 
 
+def report_units():
+    """Order 7: lists of calls, the longest of them last, and networks asked by reports and by a
+    query of every bus."""
+    lists = [Case(f"calls: {make.__name__}", make()) for make in REPORTED]
+    networks = [report_cases(report_plans(*network)) for network in fixed_reports()]
+    return [Unit(part) for part in (lists[:-1], lists[-1:], *(sum(four, []) for four in chunks(networks, 4)))]
+
+
+def report_cases(plans):
+    return [Case(plan.name, plan.calls, plan.text) for plan in plans]
+
+
 # How many of a kind are drawn for one unit of work
 DRAWN_TOGETHER = {
     "networks": 8, "bytes": 100, "calls": 20, "writes": 20, "breakings": 10, "units": 8, "reactances": 8,
+    "reports": 8,
 }
 
 
@@ -178,6 +199,8 @@ def drawn_unit(kind, seed, places):
         return Unit([Case(name, drawn_calls(rng)) for name, _, rng in draws])
     if kind == "breakings":
         return Unit([Case(name, drawn_breakings(rng)) for name, _, rng in draws])
+    if kind == "reports":
+        return Unit([case for name, _, rng in draws for case in report_cases(drawn_reports(name, rng))])
     if kind == "writes":
         return Unit([], writings=[drawn_writing(name, rng) for name, _, rng in draws])
     if kind == "units":
@@ -222,12 +245,12 @@ def with_calls(plans):
 
 
 def by_calls(plan):
-    """The same network added call by call, queried, written and asked for breaking currents at
-    its first bus and its last."""
+    """The same network added call by call, queried, written, reported and asked for breaking
+    currents at its first bus and its last."""
     calls = [("start", plan.tolerance), *as_calls(plan.rows), ("close",)]
     study = study_after(calls)
     length, last = len(study.text()), len(study.buses) - 1
-    calls += [*queries(last + 1), ("write", length - 1), ("write", length)]
+    calls += [*queries(last + 1), ("write", length - 1), ("write", length), ("report", ROW * (last + 1))]
     calls += breakings(sorted({0, last}), [2 * len(study.sources)])
     return Case(f"{plan.name}, by calls", calls)
 
@@ -347,7 +370,8 @@ def given_amperes(case, answers):
             if not all(field.isdecimal() for field in fields[1:7]):
                 return None
             found.append(Amperes(*map(int, fields[1:7])))
-    return found if len(found) == len(case.calls) - 2 else None
+    asked = sum(name == "query" for name, *_ in case.calls)
+    return found if len(found) == asked - 1 else None
 
 
 def show_text(text):

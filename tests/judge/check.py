@@ -4,7 +4,7 @@ import re
 from collections import Counter
 from os.path import commonprefix
 
-from accept import Study
+from accept import ROW, Study
 from breaking import BreakingJudge
 from calls import FILL, TABLE_FILL, carried_out
 from exact import CONVERTER
@@ -26,20 +26,23 @@ class Tally:
         self.read_back = 0
         self.breakings = Counter()
         self.shares = 0
+        self.reports = Counter()
+        self.rows = 0
         self.worst = {}
 
     def note(self, figure, value):
         self.worst[figure] = max(value, self.worst.get(figure, 0.0))
 
-    def note_amperes(self, judge, amperes):
-        self.buses += 1
+    def note_amperes(self, judge, amperes, of=""):
+        """`of` parts what rows of reports come to from what queries do."""
         for lower, upper in (amperes[0:2], amperes[2:4]):
-            self.note("width", 1000 * (upper - lower) / (2000 + upper))
+            self.note(of + "width", 1000 * (upper - lower) / (2000 + upper))
         least = judge.machines.peak_ceiling()
-        self.note("peak", (amperes.machines_peak - least) / (4 + least / 50))
-        self.note("near", (amperes.machines_peak - least) / (1 + least * float(MACHINES_NEAR - 1)))
+        above = amperes.machines_peak - least
+        self.note(of + "peak", above / (4 + least / 50))
+        self.note(of + "near", above / (1 + least * float(MACHINES_NEAR - 1)))
         least = judge.converters.peak_ceiling()
-        self.note("peak", (amperes.converters_peak - least) / (4 + least / 50))
+        self.note(of + "peak", (amperes.converters_peak - least) / (4 + least / 50))
 
     def note_breaking(self, judge, delay, figure, table):
         for place, _ in judge.generators():
@@ -57,6 +60,8 @@ class Tally:
         self.read_back += other.read_back
         self.breakings += other.breakings
         self.shares += other.shares
+        self.reports += other.reports
+        self.rows += other.rows
         for figure, value in other.worst.items():
             self.note(figure, value)
 
@@ -81,6 +86,23 @@ def difference(answer, due):
     return f"{one!r} from byte {at} on where {other!r} is due"
 
 
+def given_alike(given, study):
+    """What was given for networks alike in all but their converters, by bus; `given` has it by network."""
+    machines = tuple(source for source in study.sources if source.kind != CONVERTER)
+    return given.setdefault((study.tolerance, study.buses, machines), {})
+
+
+def sameness_reasons(given, bus, amperes):
+    """Networks alike in all but their converters get the same machines' amperes."""
+    before = given.setdefault(bus, amperes.machines)
+    if before == amperes.machines:
+        return []
+    return [
+        f"machines' amperes {amperes.machines} differ from {before}, given for a network"
+        " alike in all but its converters"
+    ]
+
+
 class Checker:
     """Walks through calls and answers, the acceptance rules beside it."""
 
@@ -88,6 +110,7 @@ class Checker:
         self.bench = bench or Bench()
         self.tally = Tally()
         self.given = {}
+        self.reported = {}
         self.judged = None, None
         self.broken = None, {}
 
@@ -116,6 +139,8 @@ class Checker:
             return study, self.query_reason(study, rest[0], answer)
         if name == "breaking":
             return study, self.breaking_reason(study, *rest, answer)
+        if name == "report":
+            return study, self.report_reason(study, rest[0], answer)
         if name == "write":
             return study, self.write_reason(study, rest[0], answer)
         given, study = carried_out(study, call)
@@ -151,22 +176,11 @@ class Checker:
         judge = self.judges(study)[bus]
         reasons = judge.reasons(amperes) + judge.near_reasons(amperes)
         reasons += verdict_reasons(amperes, letter, given, study.buses[bus])
-        reasons += self.sameness_reasons(study, bus, amperes)
+        reasons += sameness_reasons(given_alike(self.given, study), bus, amperes)
+        self.tally.buses += 1
         self.tally.note_amperes(judge, amperes)
         self.tally.verdicts[letter] += 1
         return f"bus {bus}: " + "; ".join(reasons) if reasons else ""
-
-    def sameness_reasons(self, study, bus, amperes):
-        """Networks alike in all but their converters get the same machines' amperes."""
-        machines = tuple(source for source in study.sources if source.kind != CONVERTER)
-        key = study.tolerance, study.buses, machines, bus
-        before = self.given.setdefault(key, amperes.machines)
-        if before == amperes.machines:
-            return []
-        return [
-            f"machines' amperes {amperes.machines} differ from {before}, given for a network"
-            " alike in all but its converters"
-        ]
 
     def breaking_reason(self, study, bus, delay, room, answer):
         """The answer shows the whole lent table, so that any number changed in it is seen."""
@@ -200,6 +214,38 @@ class Checker:
         if bus not in kept:
             kept[bus] = BreakingJudge(self.bench, study.network(), bus)
         return kept[bus]
+
+    def report_reason(self, study, room, answer):
+        """The answer shows the whole lent table, as that of a breaking does."""
+        number = study.report(room)
+        self.tally.reports[number] += 1
+        if number:
+            self.tally.refused[number] += 1
+            due = ",".join(map(str, (number, *[TABLE_FILL] * room)))
+            return "" if answer == due else f"{answer[:60]!r} where {due[:60]!r} is due"
+        numbers = numbers_of(answer.split(","))
+        if numbers is None or len(numbers) != 1 + room:
+            return f"{answer[:60]!r} is no answer to an accepted report"
+        if numbers[0] != 0:
+            return f"report refused with {numbers[0]} where it is accepted"
+        return self.rows_reason(study, numbers[1:])
+
+    def rows_reason(self, study, table):
+        """Each row for itself: it need not be what a query of its bus gives, and rows of alike
+        networks stand against each other, not against queries."""
+        count = ROW * len(study.buses)
+        if any(number != TABLE_FILL for number in table[count:]):
+            return "a number beyond the last bus's row is changed"
+        given = given_alike(self.reported, study)
+        for bus, judge in enumerate(self.judges(study)):
+            amperes = Amperes(*table[ROW * bus : ROW * (bus + 1)])
+            reasons = judge.reasons(amperes) + judge.near_reasons(amperes)
+            reasons += sameness_reasons(given, bus, amperes)
+            if reasons:
+                return f"row of bus {bus}: " + "; ".join(reasons)
+            self.tally.rows += 1
+            self.tally.note_amperes(judge, amperes, "row ")
+        return ""
 
     # The program
 

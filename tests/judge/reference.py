@@ -5,8 +5,9 @@ python3 tests/judge/reference.py console
 
 It serves to test run.py.  Bounds are the whole numbers next to the exact
 parts and shares, peaks come from sixteen steps between the entries of the peak
-table, a breaking figure is the least whole number not below its sum.  --fault
-plants one of faults.py, breaking_faults.py, unit_faults.py or reactance_faults.py.
+table, a breaking figure is the least whole number not below its sum; a row of a
+report is what a query gives.  --fault plants one of faults.py, breaking_faults.py,
+unit_faults.py, reactance_faults.py or report_faults.py.
 """
 
 import argparse
@@ -14,16 +15,16 @@ import re
 import sys
 from math import isqrt
 
-from accept import Study
+from accept import ROW, Study
 from breaking import BreakingJudge
-from calls import FILL, MOST_ROOM, MOST_TABLE, TABLE_FILL
+from calls import FILL, MOST_REPORT, MOST_ROOM, MOST_TABLE, TABLE_FILL
 from exact import Network, peak_thousandths
 from judge import NO_AMPERES, Amperes, Bench, verdict
 from shares import RootSum, Shares
 
-CALL = re.compile(r"(start|bus|source|close|query|breaking|write)((?:,(?:0|[1-9][0-9]{0,9}))*)")
+CALL = re.compile(r"(start|bus|source|close|query|breaking|report|write)((?:,(?:0|[1-9][0-9]{0,9}))*)")
 COUNTS = {"start": [1], "bus": [10], "source": [7, 12], "close": [0], "query": [1]}
-COUNTS |= {"breaking": [3], "write": [1]}
+COUNTS |= {"breaking": [3], "report": [1], "write": [1]}
 READ = re.compile(r"read,((?:[0-9a-fA-F]{2})*)")
 TABLE = [peak_thousandths(i) for i in range(231)]
 
@@ -72,7 +73,9 @@ class StandIn:
         return n if n * n * bottom >= top else n + 1
 
     def amperes(self, study, bus):
-        judge = self.judges(study)[bus]
+        return self.amperes_by(self.judges(study)[bus])
+
+    def amperes_by(self, judge):
         return Amperes(
             judge.machines.floor(),
             judge.machines.ceiling(),
@@ -120,6 +123,19 @@ class StandIn:
             table[2 * place : 2 * place + 2] = self.bounds(share)
         return 0, self.figure(judge, delay)
 
+    # Reports
+
+    def row(self, study, bus):
+        return self.amperes(study, bus)
+
+    def report(self, table):
+        """The number; the table is lent."""
+        number = self.study.report(len(table))
+        if not number:
+            for bus in range(len(self.study.buses)):
+                table[ROW * bus : ROW * (bus + 1)] = self.row(self.study, bus)
+        return number
+
     # The verdict
 
     def verdict(self, amperes, bus):
@@ -159,6 +175,8 @@ class StandIn:
             return self.answer_query(*numbers)
         if name == "breaking":
             return self.answer_breaking(*numbers)
+        if name == "report":
+            return self.answer_report(*numbers)
         if name == "write":
             return self.answer_write(*numbers)
         if name == "close":
@@ -184,6 +202,12 @@ class StandIn:
             return "error,room"
         table = [TABLE_FILL] * room
         return ",".join(map(str, (*self.breaking(bus, delay, table), *table)))
+
+    def answer_report(self, room):
+        if room > MOST_REPORT:
+            return "error,room"
+        table = [TABLE_FILL] * room
+        return ",".join(map(str, (self.report(table), *table)))
 
     def answer_write(self, room):
         if room > MOST_ROOM:
@@ -215,10 +239,11 @@ def main():
     from breaking_faults import BREAKING_FAULTS
     from faults import FAULTS
     from reactance_faults import REACTANCE_BREAKING_FAULTS, REACTANCE_FAULTS
+    from report_faults import REPORT_FAULTS
     from unit_faults import UNIT_BREAKING_FAULTS, UNIT_FAULTS
 
     faults = FAULTS | BREAKING_FAULTS | UNIT_FAULTS | UNIT_BREAKING_FAULTS
-    faults |= REACTANCE_FAULTS | REACTANCE_BREAKING_FAULTS
+    faults |= REACTANCE_FAULTS | REACTANCE_BREAKING_FAULTS | REPORT_FAULTS
     parser = argparse.ArgumentParser(description=__doc__.splitlines()[0])
     parser.add_argument("role", choices=["program", "console"])
     parser.add_argument("--fault", choices=sorted(faults))

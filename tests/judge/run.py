@@ -2,13 +2,13 @@
 
 python3 tests/judge/run.py --program target/bin/noldveig --console target/bin/console
     --seed 1 --networks 200 --bytes 500 --calls 100 --writes 100 --breakings 100 --units 100
-    --reactances 100
+    --reactances 100 --reports 100
 
 The fixed set always runs; the seed adds drawn networks, broken texts, lists of
 calls, studies that are written, read back and written again, networks asked for
-breaking currents, networks with power station units, and networks whose
-transformers have a low impedance.  Give an empty --program or --console to leave
-that one out.
+breaking currents, networks with power station units, networks whose transformers
+have a low impedance, and networks asked by reports.  Give an empty --program or
+--console to leave that one out.
 """
 
 import argparse
@@ -91,20 +91,25 @@ def outcomes(runner, units, jobs):
             yield from pool.imap(work, units)
 
 
-def report(tally):
+def by_number(counter):
+    return ", ".join(f"{number}: {count}" for number, count in sorted(counter.items()))
+
+
+def summary(tally):
     print(f"networks judged: {tally.networks}, buses: {tally.buses}")
     letters = ", ".join(f"{letter} {count}" for letter, count in sorted(tally.verdicts.items()))
     print(f"verdicts: {letters}")
-    grounds = ", ".join(f"{number}: {count}" for number, count in sorted(tally.refused.items()))
-    print(f"refused by ground: {grounds}")
-    writes = ", ".join(f"{number}: {count}" for number, count in sorted(tally.writes.items()))
-    print(f"writes by number: {writes}; read back and the same: {tally.read_back}")
-    breakings = ", ".join(f"{number}: {count}" for number, count in sorted(tally.breakings.items()))
-    print(f"breakings by number: {breakings}; shares judged: {tally.shares}")
+    print(f"refused by ground: {by_number(tally.refused)}")
+    print(f"writes by number: {by_number(tally.writes)}; read back and the same: {tally.read_back}")
+    print(f"breakings by number: {by_number(tally.breakings)}; shares judged: {tally.shares}")
+    print(f"reports by number: {by_number(tally.reports)}; rows judged: {tally.rows}")
     for figure, meaning in (
         ("width", "widest pair against its allowance of 2 A and a thousandth"),
         ("peak", "peak farthest above the least whole one, against 2 % and 4 A"),
         ("near", "machines' peak farthest above the least whole one, against 0.15 % and 1 A"),
+        ("row width", "a report's widest pair, likewise"),
+        ("row peak", "a report's peak farthest above the least whole one, against 2 % and 4 A"),
+        ("row near", "a report's machines' peak, likewise against 0.15 % and 1 A"),
         ("share", "widest share's pair against its allowance of 2 A and a thousandth"),
         ("figure", "breaking figure farthest above the least whole one, against 3 % and 4 A"),
     ):
@@ -132,6 +137,7 @@ def main(arguments=None):
     parser.add_argument("--breakings", type=int, default=60)
     parser.add_argument("--units", type=int, default=60)
     parser.add_argument("--reactances", type=int, default=60)
+    parser.add_argument("--reports", type=int, default=60)
     parser.add_argument("--jobs", type=int, default=1)
     options = parser.parse_args(arguments)
     for command in (options.program, options.console):
@@ -148,7 +154,7 @@ def main(arguments=None):
         for failure in failures:
             failed += 1
             show(failure, failed)
-    report(tally)
+    summary(tally)
     print(f"seconds: {time.monotonic() - begun:.0f}")
     print(f"{passed} passed, {failed} failed")
     return 1 if failed or not passed else 0

@@ -3,42 +3,47 @@
 Document 01's worked points, the sweeps against the plain definitions, the
 acceptance rules against meant numbers and against those of the edition before,
 a study's text against one typed by hand, and planted faults that the fixed set
-has to find; the same for breaking currents.  Nothing of the product is run.
+has to find; the same for breaking currents and for reports.  Nothing of the
+product is run.
 """
 
 import sys
 import time
 from collections import Counter
 from fractions import Fraction
-from math import isqrt
+from math import factorial, isqrt
 from random import Random
 
-from accept import BUSES_BEFORE, DELAYS, SOURCES_BEFORE, Study, StudyBefore
+from accept import BUSES_BEFORE, DELAYS, ROW, SOURCES_BEFORE, Study, StudyBefore
 from breaking import BreakingJudge
 from breaking_faults import BREAKING_FAULTS
 from breakings import BROKEN, drawn_breakings, every_tenth, fixed_breakings, low_breakings, tuned
-from calls import as_calls, carried_out, drawn_calls, line_of
+from calls import MOST_REPORT, TABLE_FILL, as_calls, carried_out, drawn_calls, line_of
 from cases import Unit, breaking_case, breaking_units, drawn_unit, fixed_units, reactance_units
-from cases import run_unit
+from cases import report_cases, report_units, run_unit
+from check import Checker
 from confirm import Printed, confirmed
 from exact import CONVERTER, GENERATOR, TRANSFORMER, UNIT
 from exact import Network, f_millionths, peak_thousandths, series, sine, transformer_ux
 from faults import FAULTS
-from fixed import fixed_networks, table_steps
+from fixed import fixed_networks, table_steps, worked_points
 from judge import Amperes, Bench, peak_reasons, verdict
 from networks import FAMILIES, any_network, crowd, full_tree, random_tree, rated_ends
+from networks import without_converters, write_file
 from plain import PlainNetwork, table_factor
 from plain import ux as plain_ux
 from reactance_faults import REACTANCE_BREAKING_FAULTS, REACTANCE_FAULTS, ThousandthsAgain
 from reactance_networks import fixed_reactance_networks, low_impedances
 from reference import InProcess, StandIn
 from refusals import BASE, chain_rows, filled, lone_bus, near_misses
+from report_faults import REPORT_FAULTS
+from reports import REPORTED, drawn_reports, fixed_reports, report_plans
 from run import Commands
 from shares import TABLES, RootSum, Shares, Square, compare_roots
 from texts import meant_texts, spoil
 from unit_faults import UNIT_BREAKING_FAULTS, UNIT_FAULTS
 from unit_networks import UNIT_FAMILIES, fixed_unit_networks, with_units
-from writes import WRITTEN, back_calls, first_calls, fixed_writings, longest_rows
+from writes import KEEPS, WRITTEN, back_calls, first_calls, fixed_writings, longest_rows
 from writes import study_after, text_of, told_apart
 
 BENCH = Bench()
@@ -815,6 +820,196 @@ def drawn_near(tests, count=200):
     tests.same("grounds of a breaking drawn", set(numbers), {0, 15, 22, 30, 31})
 
 
+# Order 7
+
+# By hand: 11,000 V over √3 and 0.825 and 1.1 Ω, κ 2 at ρ 0, and 200 A of the converter.
+WORKED_ROWS = 7698, 7699, 200, 200, 21774, 283, 5773, 5774, 200, 200, 16330, 283
+
+
+def report_of(room, changes=(), number=0):
+    """A report's answer with the worked rows and some numbers changed, by place."""
+    table = [*WORKED_ROWS, *[TABLE_FILL] * room][:room]
+    for place, value in dict(changes).items():
+        table[place] = value
+    return ",".join(map(str, (number, *table)))
+
+
+def report_faults_of(room, answer):
+    """What is found wrong with a report on the worked network with a converter, and on the same
+    network before it is closed."""
+    draft = worked_points()[2][1]
+    closed = [("read", draft.file()), ("report", room)], ["0,0", answer]
+    opened = [("start", 6), *as_calls(draft.rows), ("report", room)]
+    opened = opened, ["0"] * (len(opened) - 1) + [answer]
+    faults = [Checker(BENCH).first_fault(*asked) for asked in (closed, opened)]
+    return ["" if fault is None else fault[1] for fault in faults]
+
+
+def report_borders(tests):
+    """Rows at their very borders; a row may be wider than a query's answer."""
+    for room, changes, words in (
+        (12, {}, ""),
+        (13, {}, ""),
+        (MOST_REPORT, {}, ""),
+        (12, {0: 7690, 6: 5771}, ""),
+        (12, {1: 7707, 7: 5779, 9: 202}, ""),
+        (12, {4: 21806, 10: 16355}, ""),
+        (12, {0: 7699}, "row of bus 0: machines' lower 7699 is above the exact"),
+        (12, {1: 7698}, "row of bus 0: machines' upper 7698 is below the exact"),
+        (12, {0: 7689}, "wider"),
+        (12, {1: 7708}, "wider"),
+        (12, {3: 199}, "row of bus 0: converters' upper 199 is below the exact"),
+        (12, {4: 21773}, "row of bus 0: machines' peak 21773 is below the exact"),
+        (12, {4: 21807}, "0.15 %"),
+        (12, {5: 282}, "row of bus 0: converters' peak 282 is below the exact"),
+        (12, {6: 5774}, "row of bus 1: machines' lower 5774 is above the exact"),
+        (12, {7: 5773}, "row of bus 1: machines' upper 5773 is below the exact"),
+        (12, {8: 201}, "row of bus 1: converters' lower 201 is above the exact"),
+        (12, {9: 203}, "wider"),
+        (12, {10: 16329}, "row of bus 1: machines' peak 16329 is below the exact"),
+        (12, {11: 284}, "row of bus 1: converters' peak 284 is more than"),
+        (12, {11: 2**53}, "2^53"),
+        (13, {12: 0}, "beyond the last"),
+        (13, {12: 8}, "beyond the last"),
+        (MOST_REPORT, {MOST_REPORT - 1: 0}, "beyond the last"),
+        *[(12, {place: word}, "no answer") for place in (0, 11) for word in ("-1", "1.0", "0200", "", " 7")],
+    ):
+        reason, reason_open = report_faults_of(room, report_of(room, changes))
+        tests.true(f"room {room}, {changes}: {reason}", words in reason if words else not reason)
+        tests.true(f"room {room}, {changes} on an open study", "where '22,7" in reason_open)
+
+
+def report_refusals(tests):
+    """Answers to reports that are refused, right and not, and to one that is not."""
+    refusal = {room: ",7" * room for room in (0, 5, 11, 12, 13)}
+    for room, answer, due, due_open in (
+        (0, "33", True, False),
+        (0, "22", False, True),
+        (0, "33,", False, False),
+        (0, "22,", False, False),
+        (0, "0", False, False),
+        (0, "30", False, False),
+        (5, "33" + refusal[5], True, False),
+        (11, "33" + refusal[11], True, False),
+        (11, "22" + refusal[11], False, True),
+        (11, "33" + refusal[11] + ",7", False, False),
+        (11, "33" + refusal[5], False, False),
+        (11, "33" + refusal[11][:-1] + "0", False, False),
+        (11, "33,0" + refusal[11][2:], False, False),
+        (11, "30" + refusal[11], False, False),
+        (11, report_of(11), False, False),
+        (12, "33" + refusal[12], False, False),
+        (12, "22" + refusal[12], False, True),
+        (12, "0" + refusal[12], False, False),
+        (12, report_of(13), False, False),
+        (12, report_of(11), False, False),
+        (12, report_of(12) + ",", False, False),
+        (12, report_of(12, (), 22), False, False),
+        (13, report_of(12), False, False),
+        (13, "error,room", False, False),
+    ):
+        given = [not reason for reason in report_faults_of(room, answer)]
+        tests.same(f"report of room {room} answered {answer[:40]}", given, [due, due_open])
+
+
+def reports_alike(tests):
+    """Rows of networks alike in all but their converters stand against each other, and not
+    against queries, whose bounds may be others."""
+    draft = worked_points()[2][1]
+    bare = write_file(draft.tolerance, without_converters(draft.rows))
+    calls = [("read", draft.file()), ("report", 12), ("query", 0), ("read", bare), ("report", 12)]
+    none = {place: 0 for place in (2, 3, 5, 8, 9, 11)}
+    for name, changes, reason in (
+        ("the same", {}, ""),
+        ("another lower", {0: 7697}, "alike"),
+        ("another upper", {7: 5775}, "alike"),
+        ("another peak", {10: 16331}, "alike"),
+    ):
+        query = "0,7696,7701,200,200,21790,283,C,0"
+        answers = ["0,0", report_of(12), query, "0,0", report_of(12, none | changes)]
+        fault = Checker(BENCH).first_fault(calls, answers)
+        tests.same(f"{name}: {fault}", (fault or (4, ""))[0], 4)
+        tests.true(f"{name}: {fault}", reason in fault[1] if reason else fault is None)
+
+
+class RowsInFloats(StandIn):
+    """Rows by recursion in floating point, with nothing of exact.py's sweeps; a query of the same
+    bus gets other bounds."""
+
+    margin = 1e-9
+    worked = None, None
+
+    def row(self, study, bus):
+        if self.worked[0] is not study:
+            plain = PlainNetwork(study.tolerance, study.buses, study.sources)
+            self.worked = study, [self.row_by(plain, b) for b in range(len(study.buses))]
+        return self.worked[1][bus]
+
+    def row_by(self, plain, bus):
+        volts = plain.buses[bus].volts
+        seen = plain.seen_nearly(bus)
+        y = 3 * max(0.0, (1 / seen).real) / (1 / seen).imag
+        kappa = 1.02 + 0.98 / sum(y**k / factorial(k) for k in range(25))
+        parts = float(plain.c(volts)) * volts * abs(seen) / 3**0.5, float(plain.converters(bus))
+        peaks = parts[0] * kappa * 2**0.5, parts[1] * 2**0.5
+        lower = [int(value * (1 - self.margin)) for value in parts]
+        upper = [int(value * (1 + self.margin)) + 1 for value in (*parts, *peaks)]
+        return Amperes(lower[0], upper[0], lower[1], *upper[1:])
+
+
+def row_floats_accepted(tests):
+    """A report that shares nothing with the judge, and has other bounds than queries, is not blamed."""
+    units = [report_units()[0], drawn_unit("reports", 3, range(10))]
+    for name, draft in fixed_reports():
+        if len(draft.buses) <= 40 and draft.sources <= 60:
+            units.append(Unit(report_cases(report_plans(name, draft))))
+    rows = 0
+    for unit in units:
+        outcome = run_unit(InProcess(RowsInFloats), unit, BENCH)
+        rows += outcome.tally.rows
+        for failure in outcome.failures:
+            print(f"{failure.name}: {failure.reason}")
+        tests.true("rows in floating point accepted", outcome.passed and not outcome.failures)
+    print(f"rows in floating point: {rows}")
+
+
+def room_words(study, room):
+    """What a report's room is for the study as it is, in words."""
+    enough = ROW * len(study.buses)
+    beside = "just enough" if room == enough else "more" if room > enough else "too few"
+    words = [beside] + ["one too few"] * (room == enough - 1) + ["none"] * (room == 0)
+    words += ["the most"] * (room == MOST_REPORT)
+    return [f"{word}, {'closed' if study.closed else 'open'}" for word in words]
+
+
+def rooms_drawn(tests, count=100):
+    """All rooms that matter are drawn as a matter of course, on open and on closed studies."""
+    met, numbers = Counter(), Counter()
+    plans = [plan for n in range(count) for plan in drawn_reports("", Random(f"rooms {n}"))]
+    for plan in plans:
+        study = Study()
+        for name, *rest in plan.calls:
+            if name == "report":
+                met.update(room_words(study, *rest))
+                numbers[study.report(*rest)] += 1
+            elif name not in KEEPS:
+                study = carried_out(study, (name, *rest))[1]
+    print(f"rooms of reports of {count} networks: {', '.join(f'{name} {met[name]}' for name in sorted(met))}")
+    tests.same("numbers of reports drawn", set(numbers), {0, 22, 33})
+    tests.same("rooms of reports drawn", len(met), 2 * 6)
+    tests.true("each of them often", min(met.values()) >= count // 4)
+
+
+def drawn_reports_find(tests):
+    """Drawn networks alone find what the fixed ones are there for."""
+    names = ["row of bus zero for all", "converter widens rows upwards", "sweep sees own part back"]
+    names += ["row converters counted twice", "report one too short accepted", "report clears numbers beyond"]
+    unit = drawn_unit("reports", 5, range(8))
+    for name in names:
+        outcome = run_unit(InProcess(REPORT_FAULTS[name]), unit, BENCH)
+        tests.true(f"drawn reports find: {name}", outcome.failures)
+
+
 def timing_of_breaking(tests):
     for plan in fixed_breakings():
         if plan.name in ("machines of all kinds", "full_tree 1"):
@@ -849,8 +1044,9 @@ def by_processes(tests):
     here = __file__.rpartition("/")[0] or "."
     commands = [f"{sys.executable} {here}/reference.py {role}" for role in ("program", "console")]
     units = fixed_units()
-    drawn = [(kind, 2, range(3)) for kind in ("writes", "breakings", "units", "reactances")]
-    for unit in (*units[:3], units[5], units[-1], *breaking_units()[:2], *drawn):
+    drawn = [(kind, 2, range(3)) for kind in ("writes", "breakings", "units", "reactances", "reports")]
+    own = [reactance_units()[-1], *breaking_units()[:2], *report_units()[:2]]
+    for unit in (*units[:3], units[5], *own, *drawn):
         outcome = run_unit(Commands(*commands), unit, BENCH)
         tests.true("stand-in by processes", outcome.passed and not outcome.failures)
     for unit in (units[5], *drawn):
@@ -866,6 +1062,7 @@ def planted_faults(tests):
     drawn.append(drawn_unit("breakings", 1, range(20)))
     drawn.append(drawn_unit("units", 1, range(20)))
     drawn.append(drawn_unit("reactances", 1, range(20)))
+    drawn.append(drawn_unit("reports", 1, range(40)))
     refused, failing = set(), set()
     for unit in units + drawn:
         outcome = run_unit(InProcess(StandIn), unit, BENCH)
@@ -873,13 +1070,15 @@ def planted_faults(tests):
         for failure in outcome.failures:
             print(f"{failure.name}: {failure.reason}")
         tests.true("no fault planted", outcome.passed and not outcome.failures)
-    tests.same("grounds met", refused, set(range(1, 17)) | set(range(21, 26)) | {30, 31, 32})
+    tests.same("grounds met", refused, set(range(1, 17)) | set(range(21, 26)) | {30, 31, 32, 33})
     breakings = breaking_units()
     tried = [(*fault, units) for fault in (FAULTS | UNIT_FAULTS).items()]
     tried += [(*fault, breakings) for fault in (BREAKING_FAULTS | UNIT_BREAKING_FAULTS).items()]
     low = reactance_units()
     tried += [(*fault, low) for fault in REACTANCE_FAULTS.items()]
     tried += [(*fault, low[-1:]) for fault in REACTANCE_BREAKING_FAULTS.items()]
+    reports = report_units()
+    tried += [(*fault, reports) for fault in REPORT_FAULTS.items()]
     for name, stand_in, among in tried:
         found = None
         for unit in among:
@@ -890,49 +1089,61 @@ def planted_faults(tests):
         if found:
             failing |= {failure.name for failure in found}
             print(f"planted fault: {name}; found by: {found[0].name}; {len(found)} in its unit")
-    for make in WRITTEN + BROKEN:
+    for make in WRITTEN + BROKEN + REPORTED:
         tests.true(f"some fault fails {make.__name__}", f"calls: {make.__name__}" in failing)
+
+
+TESTS = [
+    worked_factors,
+    worked_networks,
+    worked_units,
+    worked_reactances,
+    many_reactances,
+    rows_of_seven,
+    worked_grounds,
+    against_plain,
+    against_floats,
+    meant_numbers,
+    editions,
+    drawn_sizes,
+    drawn_relations,
+    drawn_reactances,
+    written_by_hand,
+    written_and_read,
+    answers_told_apart,
+    refused_calls,
+    units_confirmed,
+    judge_borders,
+    each_table_entry,
+    worked_factors_of_q,
+    worked_breaking,
+    shares_against_plain,
+    shares_against_floats,
+    floats_accepted,
+    two_reached,
+    two_by_millionths,
+    sums_of_roots,
+    squares_compared,
+    breaking_borders,
+    each_factor,
+    drawn_near,
+    report_borders,
+    report_refusals,
+    reports_alike,
+    row_floats_accepted,
+    rooms_drawn,
+    drawn_reports_find,
+    timing_of_breaking,
+    timing,
+    by_processes,
+    planted_faults,
+]
 
 
 def main():
     tests = Tests()
-    worked_factors(tests)
-    worked_networks(tests)
-    worked_units(tests)
-    worked_reactances(tests)
-    many_reactances(tests)
-    rows_of_seven(tests)
-    worked_grounds(tests)
-    against_plain(tests)
-    against_floats(tests)
-    meant_numbers(tests)
-    editions(tests)
-    drawn_sizes(tests)
-    drawn_relations(tests)
-    drawn_reactances(tests)
-    written_by_hand(tests)
-    written_and_read(tests)
-    answers_told_apart(tests)
-    refused_calls(tests)
-    units_confirmed(tests)
-    judge_borders(tests)
-    each_table_entry(tests)
-    worked_factors_of_q(tests)
-    worked_breaking(tests)
-    shares_against_plain(tests)
-    shares_against_floats(tests)
-    floats_accepted(tests)
-    two_reached(tests)
-    two_by_millionths(tests)
-    sums_of_roots(tests)
-    squares_compared(tests)
-    breaking_borders(tests)
-    each_factor(tests)
-    drawn_near(tests)
-    timing_of_breaking(tests)
-    timing(tests)
-    by_processes(tests)
-    planted_faults(tests)
+    for test in TESTS:
+        test(tests)
     print(f"{tests.passed} passed, {tests.failed} failed")
     return 1 if tests.failed else 0
 

@@ -16,7 +16,7 @@ from refusals import BASE, record_misses
 from texts import SMALL, TEXT
 from unit_networks import units_drawn_once, units_together, with_units
 
-KEEPS = ("query", "breaking", "write", "other")
+KEEPS = ("query", "breaking", "report", "write", "other")
 ACCEPTED = re.compile(r"0,(0|[1-9][0-9]{0,9}),((?:[0-9a-f]{2})*)")
 
 
