@@ -4,7 +4,8 @@ ghost use mathlib.Core.Path.{_≡_};
 ghost use Prim.Native.Nat.{_+_, _*_, _≤_};
 ghost use lib.ListN.{length};
 ghost use lib.Seq.{sets};
-ghost use Rattle.network.specs.Network.{network};
+ghost use Rattle.tree.specs.Limits.{maxBuses};
+ghost use Rattle.network.specs.Network.{Network, network};
 ghost use Rattle.network.specs.NearPeaks.{NearReport};
 ghost use Rattle.network.specs.Report.{reportNumber, rowNumbers, reported, ReportPromise};
 ghost use Rattle.network.specs.Tables.{laidOver, tableAfter};
@@ -16,6 +17,22 @@ use crate::study::bus_total;
 
 // The numbers of a row.
 pub const ROW: usize = 6;
+
+// The ground on which a report is refused, 0 where it is accepted: by whether the study is closed, how many buses it has, and the room of the
+// table.
+fn report_number(closed: bool, buses: usize, room: usize) -> u32
+    requires { ⌜ buses ≤ maxBuses ⌝ }
+    ensures { λ r. ⌜ ((n : Network) → n .closed ≡ closed → length (n .buses) ≡ buses → r ≡ reportNumber n room) ⌝ }
+{
+    let needed = ROW * buses;
+    if !closed {
+        return 22;
+    }
+    if room < needed {
+        return 33;
+    }
+    0
+}
 
 // Lays the six numbers of a row into the table, from a place on.
 fn lay_row(table: &mut [f64], at: usize, a: Amperes)
@@ -68,12 +85,10 @@ pub fn report(s: Study, table: &mut [f64]) -> u32
     ensures promise { λ r. ⌜ ReportPromise (network s) (now (table .entry)) (now (table .exit)) ⌝ }
     ensures near { λ r. ⌜ NearReport (network s) (now (table .entry)) (now (table .exit)) ⌝ }
 {
-    if !s.closed {
-        return 22;
-    }
-    if table.len() < ROW * bus_total(s) {
-        return 33;
+    let number = report_number(s.closed, bus_total(s), table.len());
+    if number != 0 {
+        return number;
     }
     lay_rows(s, table);
-    0
+    number
 }

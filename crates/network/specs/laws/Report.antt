@@ -93,18 +93,21 @@ passed : (n : Network) (room k : ℕ) → reportNumber n room ≡ 0 → testOf (
 unfolding reportNumber
 passed n room k e = ground (reportGrounds n room) k refl e
 
+pub report-room : (n : Network) (room : ℕ) → reportNumber n room ≡ 0 → 6 * length (n .buses) ≤ room
+report-room n room e = leb-true _ _ (passed n room 33 e)
+
 -- THE PROMISE IS KEPT
 pub report-kept : (n : Network) (lent : List Float) → ReportPromise n lent (tableAfter (reportNumber n (length lent)) (reported n) lent)
 unfolding tableAfter
 report-kept n lent cs q e =
     rw (eq-eqb (reportNumber n (length lent)) 0 e)
-    (report-holds (rw q (run-rebuilt cs)) (passed n (length lent) 22 e) lent (leb-true _ _ (passed n (length lent) 33 e)))
+    (report-holds (rw q (run-rebuilt cs)) (passed n (length lent) 22 e) lent (report-room n (length lent) e))
 
 pub near-report-kept : (n : Network) (lent : List Float) → NearReport n lent (tableAfter (reportNumber n (length lent)) (reported n) lent)
 unfolding tableAfter
 near-report-kept n lent cs q e b l =
     rw (eq-eqb (reportNumber n (length lent)) 0 e)
-    (near-holds (rw q (run-rebuilt cs)) (passed n (length lent) 22 e) lent (leb-true _ _ (passed n (length lent) 33 e)) b l)
+    (near-holds (rw q (run-rebuilt cs)) (passed n (length lent) 22 e) lent (report-room n (length lent) e) b l)
 
 -- ---- the number of a report in each of its cases
 pub report-open : (n : Network) (room : ℕ) → n .closed ≡ false → 22 ≡ reportNumber n room
