@@ -1,6 +1,6 @@
-/* Times whole boards of a study on standard input, proved (target/staticlib/libbench.a) and in plain doubles, and the queries of all its
+/* Times whole boards of a study on standard input, proved by reports (target/staticlib/libbench.a) and in plain doubles, and the queries of all its
    buses one by one, in one process and turn about: nanoseconds, the least of many short runs. Prints a name and a number to a line.
-   Stops where the board and the queries do not give the same sum. */
+   Stops where the reports and the queries do not give the same sum. */
 #include "plain.h"
 
 #include <stdint.h>
@@ -8,14 +8,15 @@
 #include <time.h>
 
 double network_sums(const char *text, size_t length, uint8_t last, uint32_t queries);
-double network_boards(const char *text, size_t length, uint32_t boards);
+double network_reports(const char *text, size_t length, double *table, size_t room, uint32_t reports);
 
-enum { RUNS = 400, TIMES = 16, QUERIES = 64, TEXT = 65537, WORKS = 3 };
+enum { RUNS = 400, TIMES = 16, QUERIES = 64, TEXT = 65537, WORKS = 3, ROW = 6 };
 
 static char text[TEXT];
 static size_t length;
 static struct study study;
 static struct figures rows[BUSES];
+static double table[ROW * BUSES];
 static volatile double sink;
 
 static double now(void)
@@ -27,7 +28,7 @@ static double now(void)
 
 static double proved(int boards)
 {
-    return network_boards(text, length, (uint32_t)boards);
+    return network_reports(text, length, table, (size_t)(ROW * study.buses), (uint32_t)boards);
 }
 
 static double plain(int boards)
@@ -66,7 +67,7 @@ int main(void)
     /* queries take much longer than boards, so that fewer do */
     int times[WORKS] = {TIMES, TIMES, (QUERIES + study.buses - 1) / study.buses};
     if (proved(TIMES) != one_by_one(TIMES)) {
-        puts("the board and the queries differ");
+        puts("the reports and the queries differ");
         return 1;
     }
     for (int run = 0; run < RUNS; run++)

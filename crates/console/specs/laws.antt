@@ -3,3 +3,4 @@ pub mod AnswersLaw
 pub mod Lines
 pub mod EffectsLaw
 pub mod BreakingAnswers
+pub mod ReportAnswers
