@@ -2,7 +2,7 @@
 -- and behind these stand the numbers as they were lent. Assumes nothing.
 use Prim.Native.Nat.{ℕ, zero, suc, _+_, _*_, _≤_, _<_}
 use mathlib.Core.Path.{_≡_, refl, sym, _∙_, ap}
-use mathlib.Core.List.{List, [], _∷_, _++_, append-nil}
+use mathlib.Core.List.{List, [], _∷_, _++_, append-nil, append-assoc}
 use native.Mathlib.Omega.{arith}
 use lib.ListN.{length, take, drop, take-append-drop}
 use lib.Seq.{take-add, drop-cons}
@@ -34,7 +34,7 @@ row-at table b h =
 
 row-text : (table : List Float) (b : ℕ) → numbersText (rowNumbers (rowIn table b)) ≡ amperesText (rowIn table b)
 unfolding numbersText amperesText
-row-text table b = rw append-nil
+row-text table b = simp (append-nil, append-assoc)
 
 module _ (n : Network) (lent table : List Float) (h : ReportHolds n lent table) (room : 6 * length (n .buses) ≤ length lent)
     (figures : ℕ → Figures) (whole : (b : ℕ) → b < length (n .buses) → WholeAmperes (rowIn table b) (figures b)) where
