@@ -1,4 +1,4 @@
-"""Networks of the widest and the deepest shape with any number of buses, four sources to a bus, for what is timed."""
+"""Random trees, and networks of the widest and of the deepest shape, with any number of buses and four sources to a bus, for what is timed."""
 from networks import Draft, arm, random_tree
 
 SOURCES_EACH = 4

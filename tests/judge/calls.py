@@ -17,7 +17,7 @@ from unit_networks import add_units, some_filled
 MOST_ROOM = 70_000
 FILL = b"\x55"
 
-# Tables of so many numbers at most are lent to a breaking and to a report, each number filled in.
+# Tables of so many numbers at most are lent to a breaking and to a report, each number 7 before the call.
 MOST_TABLE = 1_100
 MOST_REPORT = 1_000
 TABLE_FILL = 7

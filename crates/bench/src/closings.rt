@@ -1,7 +1,7 @@
 // A study closed again and again, as tests/check-report times it: with a report after each closing, or with one query.
 ghost use mathlib.Core.Path.{_≡_};
-ghost use mathlib.Core.List.{_++_, map};
-ghost use Prim.Native.Nat.{_≤_, _<_};
+ghost use mathlib.Core.List.{map};
+ghost use Prim.Native.Nat.{_+_, _≤_};
 ghost use lib.ListN.{take};
 ghost use Rattle.network.specs.Network.{maxBuses, maxSources, network};
 ghost use Rattle.network.specs.Grounds.{startNetwork, afterClose, runFrom, addingBus, addingSource};
@@ -81,11 +81,11 @@ pub fn closed_reports(s: Study, table: &mut [f64], k: u32) -> f64
     total
 }
 
-// k times: the study closed, and one query, going round over the buses 0 to n - 1. The six figures of each, added up.
-pub fn closed_queries(s: Study, n: u32, k: u32) -> f64
-    requires { ⌜ 0 < n ⌝ }
-    ensures { λ r. ⌜ r ≡ sumsOf (afterClose (network s)) n k ⌝ }
+// k times: the study closed, and one query, going round over the buses up to `last`. The six figures of each, added up.
+pub fn closed_queries(s: Study, last: u8, k: u32) -> f64
+    ensures { λ r. ⌜ r ≡ sumsOf (afterClose (network s)) (last + 1) k ⌝ }
 {
+    let n = last as u32 + 1;
     let mut total = 0.0;
     let mut i: u32 = 0;
     while i < k {

@@ -77,7 +77,7 @@ tableFiller = ofNat 7
 unfoldable pub brokenHead : ℕ → Float → List ℕ
 brokenHead number figure = decimal number ++ nextText (wholeOf figure)
 
--- "all ROOM lent numbers", each behind a comma; of none nothing follows FIGURE
+-- "all ROOM lent numbers", each behind a comma; of none nothing follows
 unfoldable pub numbersText : List Float → List ℕ
 numbersText [] = []
 numbersText (x ∷ numbers) = nextText (wholeOf x) ++ numbersText numbers

@@ -17,7 +17,7 @@ use crate::hex::Decoded;
 use crate::hex::TEXT;
 use crate::hex::decode;
 use crate::hex::text_of;
-use crate::tables::REPORT;
+use crate::tables::REPORT_TABLE;
 use crate::tables::TABLE;
 use crate::tables::fill_table;
 use crate::turns::Reason;
@@ -206,6 +206,7 @@ fn report_into(s: Study, table: &mut [f64]) -> u32
     report(s, table)
 }
 
+// All lent numbers are answered here too. README has 1,000 of them at most; that the table has them is for the slice.
 fn make_report(s: Study, rest: &[u8], table: &mut [f64]) -> Turn
     ensures study { λ r. ⌜ r .study ≡ s ⌝ }
     ensures effect { λ r. ⌜ ((text : List ℕ) → length (now (table .entry)) ≡ 1100 → effectOf (text, now (table .exit)) r ≡ reportEffect (network s) (now (rest .entry))) ⌝ }
@@ -214,7 +215,7 @@ fn make_report(s: Study, rest: &[u8], table: &mut [f64]) -> Turn
     let v = n.values;
     if takes(n, 1) {
         let count = v[0] as usize;
-        if (count <= REPORT) & (count <= table.len()) {
+        if (count <= REPORT_TABLE) & (count <= table.len()) {
             let number = report_into(s, &mut table[0..count]);
             return Turn {
                 reply: Reply::Report(number, count),

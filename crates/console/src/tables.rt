@@ -15,7 +15,7 @@ use printing::written;
 // The most numbers that a call is lent, and the most that a report is.
 pub(crate) const TABLE: usize = 1_100;
 
-pub(crate) const REPORT: usize = 1_000;
+pub(crate) const REPORT_TABLE: usize = 1_000;
 
 // How many numbers fill a line.
 const FEW: usize = 12;

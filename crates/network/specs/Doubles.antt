@@ -6,6 +6,7 @@ use lib.Dec.{eqb}
 use lib.ListN.{length}
 use lib.Ieee.{Float, binary64, add, sub, lt, le}
 use Rattle.enclosure.specs.declared.Complex.{Complex}
+use Rattle.enclosure.specs.Exact.{ofNat}
 use Rattle.enclosure.specs.Doubles.{none, added, doubles, lowerOf, upperOf}
 use Rattle.elements.specs.Factors.{factorC}
 use Rattle.elements.specs.Doubles.{lineBy, transformerBy, currentBy, machinePeakBy, converterPeakBy}
@@ -154,3 +155,7 @@ verdictOf a rating peakRating = by (add binary64 (a .lower .0) (a .«converters_
         (cond (lt rating L) (Over (sub binary64 L rating))
         (cond (le U rating) (Within (sub binary64 rating U))
         Close))
+
+-- by the two ratings of a bus
+abbrev pub ratedVerdict : Bus → Amperes → Verdict
+ratedVerdict b a = verdictOf a (ofNat (b .rating)) (ofNat (b .«peak_rating»))

@@ -4,14 +4,13 @@ use mathlib.Core.List.{List, [], _∷_}
 use Prim.Native.Nat.{ℕ}
 use lib.Dec.{ltb, eqb}
 use lib.ListN.{length}
-use Rattle.enclosure.specs.Exact.{ofNat}
 use Rattle.network.specs.declared.query.Amperes.{Amperes}
 use Rattle.network.specs.declared.query.Verdict.{Verdict}
 use Rattle.network.specs.declared.query.Verdict.the-variants.{Close}
 use Rattle.network.specs.Network.{Network, busAt}
 use Rattle.network.specs.Grounds.{Ground, on, first}
 use Rattle.network.specs.Demand.{amperesOf}
-use Rattle.network.specs.Doubles.{amperesAt, verdictOf}
+use Rattle.network.specs.Doubles.{amperesAt, ratedVerdict}
 use Rattle.network.specs.declared.query.Found.{Found}
 
 -- "22 not closed (querying)."; "15 queried bus absent."
@@ -29,7 +28,7 @@ unfoldable pub amperesGiven : Network → ℕ → Amperes
 amperesGiven n b = cond (eqb (queryNumber n b) 0) (amperesAt n b) noAmperes
 
 unfoldable pub verdictGiven : Network → ℕ → Verdict
-verdictGiven n b = cond (eqb (queryNumber n b) 0) (verdictOf (amperesAt n b) (ofNat (busAt (n .buses) b .rating)) (ofNat (busAt (n .buses) b .«peak_rating»))) Close
+verdictGiven n b = cond (eqb (queryNumber n b) 0) (ratedVerdict (busAt (n .buses) b) (amperesAt n b)) Close
 
 -- what a query of bus b gives
 unfoldable pub foundGiven : Network → ℕ → Found

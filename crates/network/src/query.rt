@@ -1,8 +1,8 @@
 // What a query of a closed study gives: six amperes and a verdict.
 ghost use mathlib.Core.Path.{_≡_};
-ghost use Rattle.enclosure.specs.Exact.{ofNat};
 ghost use Rattle.network.specs.Network.{network};
-ghost use Rattle.network.specs.Doubles.{verdictOf};
+ghost use Rattle.network.specs.Demand.{Figures, WholeAmperes, verdictOn};
+ghost use Rattle.network.specs.Doubles.{verdictOf, ratedVerdict};
 ghost use Rattle.network.specs.Promise.{Promise};
 ghost use Rattle.network.specs.NearPeaks.{NearPromise};
 ghost use Rattle.network.specs.Query.{queryNumber, noAmperes, amperesGiven, verdictGiven, foundGiven};
@@ -68,9 +68,10 @@ fn verdict_of(a: Amperes, rating: Rms, peak_rating: Peak) -> Verdict
     Verdict::Close
 }
 
-// The six amperes of a bus against the ratings of its record.
+// The six amperes of a bus against the ratings of its record; of whole amperes, by the clause `whole`, it is document 01's verdict.
 pub fn verdict_at(bus: Bus, a: Amperes) -> Verdict
-    ensures { λ r. ⌜ r ≡ verdictOf a (ofNat (bus .rating)) (ofNat (bus .«peak_rating»)) ⌝ }
+    ensures verdict { λ r. ⌜ r ≡ ratedVerdict bus a ⌝ }
+    ensures whole { λ r. ⌜ ((g : Figures) → WholeAmperes a g → r ≡ verdictOn g (bus .rating) (bus .«peak_rating»)) ⌝ }
 {
     verdict_of(a, Rms(bus.rating as f64), Peak(bus.peak_rating as f64))
 }

@@ -1,5 +1,5 @@
-// The whole board (document 02, order 7): the six amperes of every bus in a lent table, from one board and so from one sweep towards bus 0
-// and one away from it.
+// The whole board (document 02, order 7): the six amperes of every bus in a lent table. All rows are read off one board, so that both sweeps
+// are made once.
 ghost use mathlib.Core.Path.{_≡_};
 ghost use Prim.Native.Nat.{_+_, _*_, _≤_};
 ghost use lib.ListN.{length};

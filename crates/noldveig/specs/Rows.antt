@@ -7,9 +7,8 @@ use lib.ListN.{length}
 use Rattle.network.specs.declared.query.Amperes.{Amperes}
 use Rattle.network.specs.declared.query.Verdict.{Verdict}
 use Rattle.printing.specs.Printed.{decimal, nextText, amperesText, letterText}
-use Rattle.enclosure.specs.Exact.{ofNat}
 use Rattle.network.specs.Network.{Network, busAt}
-use Rattle.network.specs.Doubles.{verdictOf}
+use Rattle.network.specs.Doubles.{ratedVerdict}
 use Rattle.network.specs.Report.{reportedAt}
 use Rattle.reader.specs.File.{cr, lf, Outcome}
 
@@ -30,11 +29,8 @@ refusalRow number row = refused ++ nextText number ++ nextText row ++ crlf
 
 -- "per bus, from 0 up": the row of bus b of a network, with what a report gives there and the verdict on it; those of the first k buses, and
 -- of all
-abbrev pub verdictBy : Network → ℕ → Amperes → Verdict
-verdictBy n b a = verdictOf a (ofNat (busAt (n .buses) b .rating)) (ofNat (busAt (n .buses) b .«peak_rating»))
-
 abbrev pub rowText : Network → ℕ → List ℕ
-rowText n b = busRow b (reportedAt n b) (verdictBy n b (reportedAt n b))
+rowText n b = busRow b (reportedAt n b) (ratedVerdict (busAt (n .buses) b) (reportedAt n b))
 
 unfoldable pub rowsText : Network → ℕ → List ℕ
 rowsText n zero = []

@@ -12,8 +12,8 @@ use printing::written;
 // The bytes that a text may have.
 const TEXT: usize = 65_536;
 
-// How many buses are asked for in turn.
-const TURNS: u32 = 128;
+// The last of the 128 buses, which are asked for in turn.
+const LAST: u8 = 127;
 
 // How often the study is closed and queried: a hundred times for each bus, so often that starting and reading weigh nothing.
 const ROUNDS: u32 = 12_800;
@@ -23,7 +23,7 @@ fn main() {
     let n = io::read_full(STDIN_FILENO, &mut text);
     let reading = reader::read(&text[..n]);
     let study = opened(reading.study);
-    let total = closed_queries(study, TURNS, ROUNDS);
+    let total = closed_queries(study, LAST, ROUNDS);
     let mut line = [0u8; LINE];
     let end = put_number(&mut line, 0, number_of(total));
     io::write_all(STDOUT_FILENO, written(&line, end));

@@ -5,7 +5,6 @@ use mathlib.Core.Bool.{true}
 use native.Mathlib.Omega.{arith}
 use lib.ListN.{length}
 use borrow.Author.Tests.{eq-eqb}
-use Rattle.enclosure.specs.Exact.{ofNat}
 use Rattle.network.specs.declared.query.Amperes.{Amperes}
 use Rattle.network.specs.declared.query.Found.{Found}
 use Rattle.network.specs.Network.{Network, busAt}
@@ -13,7 +12,7 @@ use Rattle.network.specs.Grounds.{run}
 use Rattle.network.specs.laws.Rebuilt.{Rebuilt, run-rebuilt}
 use Rattle.network.specs.laws.AcceptedRecords.{bus-rating, bus-peak-rating, closed-source}
 use Rattle.network.specs.Demand.{Figures, WholeAmperes, verdictAt}
-use Rattle.network.specs.Doubles.{amperesAt, verdictOf}
+use Rattle.network.specs.Doubles.{amperesAt, ratedVerdict}
 use Rattle.network.specs.Query.{queryNumber, amperesGiven, foundGiven}
 use Rattle.network.specs.laws.Claim.{demand}
 use Rattle.network.specs.Promise.{machinesOf, Kept, Promise}
@@ -26,7 +25,7 @@ amperes-given n b c l = rw (eq-eqb (queryNumber n b) 0 (query-accepted n b c l))
 
 -- the verdict on whole amperes, by the ratings of an accepted bus
 pub verdict-rated : {n : Network} → Rebuilt n → (b : ℕ) → b < length (n .buses) → (a : Amperes) (g : Figures) → WholeAmperes a g
-    → verdictOf a (ofNat (busAt (n .buses) b .rating)) (ofNat (busAt (n .buses) b .«peak_rating»)) ≡ verdictAt n b g
+    → ratedVerdict (busAt (n .buses) b) a ≡ verdictAt n b g
 verdict-rated r b l a g w = verdict-whole a g w _ _ (omega (arith, bus-rating r b l .1)) (omega (arith, bus-peak-rating r b l .1))
 
 -- WHAT QUERY DEFINES KEEPS IT, for every closed network with the invariant

@@ -4,13 +4,15 @@ use mathlib.Core.Path.{_≡_, _∙_, ap, ap₂}
 use mathlib.Core.Bool.{true, false}
 use lib.ListN.{length}
 use borrow.Author.Tests.{lt-ltb, le-ltb}
-use Rattle.enclosure.specs.Exact.{ofNat}
+use Rattle.elements.specs.Factors.{factorC}
+use Rattle.network.specs.declared.study.Bus.{Bus}
 use Rattle.network.specs.declared.query.Amperes.{Amperes}
 use Rattle.network.specs.declared.query.Found.{Found}
 use Rattle.network.specs.declared.query.Verdict.{Verdict}
 use Rattle.network.specs.declared.query.Verdict.the-variants.{Close}
 use Rattle.network.specs.Network.{Network, busAt}
-use Rattle.network.specs.Doubles.{amperesAt, verdictOf}
+use Rattle.network.specs.Demand.{amperesOf}
+use Rattle.network.specs.Doubles.{seenAt, carriedAt, figuresBy, ratedVerdict}
 use Rattle.network.specs.Query.{queryNumber, noAmperes, amperesGiven, verdictGiven, foundGiven}
 
 -- a refused query
@@ -22,9 +24,12 @@ refused-whole f number p q v =
     ap (λ (k : ℕ). record { number = k; amperes = f .amperes; verdict = f .verdict }) p
     ∙ ap₂ (λ (a : Amperes) (w : Verdict). record { number = number; amperes = a; verdict = w }) q v
 
--- an accepted one
-abbrev pub answeredAt : Network → ℕ → Found
-answeredAt n b = record { number = 0; amperes = amperesAt n b; verdict = verdictOf (amperesAt n b) (ofNat (busAt (n .buses) b .rating)) (ofNat (busAt (n .buses) b .«peak_rating»)) }
+-- what bus b gets by a record, and an accepted query by it
+abbrev pub rowBy : Network → ℕ → Bus → Amperes
+rowBy n b x = amperesOf (figuresBy (factorC (n .tolerance) (x .volts)) (x .volts) (seenAt n b) (carriedAt n b))
+
+abbrev pub answerBy : Network → ℕ → Bus → Found
+answerBy n b x = record { number = 0; amperes = rowBy n b x; verdict = ratedVerdict x (rowBy n b x) }
 
 module _ (n : Network) where
   -- "22 not closed", whatever the bus
@@ -37,6 +42,6 @@ module _ (n : Network) where
   unfolding foundGiven queryNumber amperesGiven verdictGiven
   found-absent e b h = rw (e, le-ltb b (length (n .buses)) h)
 
-  pub found-there : n .closed ≡ true → (b : ℕ) → b < length (n .buses) → foundGiven n b ≡ answeredAt n b
+  pub found-there : n .closed ≡ true → (b : ℕ) → b < length (n .buses) → foundGiven n b ≡ answerBy n b (busAt (n .buses) b)
   unfolding foundGiven queryNumber amperesGiven verdictGiven
   found-there e b h = rw (e, lt-ltb b (length (n .buses)) h)

@@ -16,7 +16,7 @@ use Rattle.network.specs.declared.query.Verdict.the-variants.{Within, Ov
 use Rattle.network.specs.Network.{Network, busAt}
 use Rattle.network.specs.laws.Tests.{by-test}
 use Rattle.network.specs.Demand.{Figures, WholeAmperes, verdictOn}
-use Rattle.network.specs.Doubles.{amperesAt, verdictOf}
+use Rattle.network.specs.Doubles.{amperesAt, verdictOf, ratedVerdict}
 use Rattle.network.specs.Query.{queryNumber, verdictGiven}
 
 -- P against its rating, then the rest
@@ -61,6 +61,6 @@ pub query-accepted : (n : Network) (b : ℕ) → n .closed ≡ true → b < leng
 unfolding queryNumber
 query-accepted n b c l = ap (λ (t : Bool). cond t (cond (ltb b (length (n .buses))) 0 15) 22) c ∙ ap (λ (t : Bool). cond t 0 15) (lt-ltb b (length (n .buses)) l)
 
-pub verdict-given : (n : Network) (b : ℕ) → queryNumber n b ≡ 0 → verdictGiven n b ≡ verdictOf (amperesAt n b) (ofNat (busAt (n .buses) b .rating)) (ofNat (busAt (n .buses) b .«peak_rating»))
+pub verdict-given : (n : Network) (b : ℕ) → queryNumber n b ≡ 0 → verdictGiven n b ≡ ratedVerdict (busAt (n .buses) b) (amperesAt n b)
 unfolding verdictGiven
 verdict-given n b e = rw (eq-eqb (queryNumber n b) 0 e)

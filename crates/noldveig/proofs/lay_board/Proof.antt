@@ -8,16 +8,13 @@ use lib.Ieee.{Float}
 use lib.ListN.{length, take, length-take}
 use lib.Seq.{getD-take}
 use Rattle.network.specs.declared.study.Bus.{Bus}
-use Rattle.network.specs.declared.query.Amperes.{Amperes}
 use Rattle.network.specs.Network.{Network, network, busAt, blank, maxBuses}
-use Rattle.network.specs.declared.query.Verdict.{Verdict}
-use Rattle.network.specs.Doubles.{verdictOf}
-use Rattle.enclosure.specs.Exact.{ofNat}
+use Rattle.network.specs.Doubles.{ratedVerdict}
 use Rattle.network.specs.Report.{rowIn, reportedAt}
 use Rattle.network.specs.laws.Arrays.{length-mapped, read-inside}
 use Rattle.network.specs.laws.Report.{report-rows}
 use Rattle.printing.specs.Line.{room}
-use Rattle.noldveig.specs.Rows.{busRow, verdictBy, rowText, rowsText}
+use Rattle.noldveig.specs.Rows.{busRow, rowsText}
 use Rattle.noldveig.specs.laws.Rows.{rows-more}
 use borrow.Author.Needs.{needs}
 use Rattle.noldveig.proofs.lay_board.Statement.{statement}
@@ -26,9 +23,6 @@ use Rattle.noldveig.proofs.lay_board.Tie as tie
 -- a table has a network's rows, and an array its records
 abbrev Holds : Network → List Float → List Bus → ℕ → Type 0
 Holds n table buses total = (b : ℕ) → b < total → (rowIn table b ≡ reportedAt n b) × (busAt buses b ≡ busAt (n .buses) b)
-
-abbrev verdictAgainst : Bus → Amperes → Verdict
-verdictAgainst x a = verdictOf a (ofNat (x .rating)) (ofNat (x .«peak_rating»))
 
 abbrev Inv-loop : tie.InvT-loop
 Inv-loop out₀ table total buses at₀ b₀ out at b =
@@ -105,8 +99,8 @@ loop-again c =
       turn .kept .0 ∙ l .inv .3,
       λ n h.
           let amperes : c .before .before .before .before .before .before .row-of .result ≡ reportedAt n (l .b) = c .before .before .before .before .before .before .row-of .ensures ∙ h (l .b) (c .before .before .before .before .before .before .before .before .loop-test .taken) .0 in
-          let verdict : c .before .before .before .before .verdict-at .result ≡ verdictBy n (l .b) (reportedAt n (l .b)) =
-          c .before .before .before .before .verdict-at .ensures ∙ ap₂ verdictAgainst (record-read ∙ h (l .b) (c .before .before .before .before .before .before .before .before .loop-test .taken) .1) amperes in
+          let verdict : c .before .before .before .before .verdict-at .result ≡ ratedVerdict (busAt (n .buses) (l .b)) (reportedAt n (l .b)) =
+          c .before .before .before .before .verdict-at .ensures .0 ∙ ap₂ ratedVerdict (record-read ∙ h (l .b) (c .before .before .before .before .before .before .before .before .loop-test .taken) .1) amperes in
           turn .ensures .1 ∙ ap₂ (λ (x y : List ℕ). x ++ y) (l .inv .4 n h) (ap₂ (busRow (l .b)) amperes verdict) ∙ rows-more n (l .b),
     )
 

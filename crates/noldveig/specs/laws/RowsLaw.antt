@@ -6,7 +6,8 @@ use mathlib.Core.List.{List, _++_}
 use lib.ListN.{length}
 use Rattle.network.specs.declared.query.Amperes.{Amperes}
 use Rattle.network.specs.declared.query.Verdict.{Verdict}
-use Rattle.network.specs.Network.{Network}
+use Rattle.network.specs.Network.{Network, busAt}
+use Rattle.network.specs.Doubles.{ratedVerdict}
 use Rattle.network.specs.Grounds.{run}
 use Rattle.network.specs.laws.Rebuilt.{Rebuilt, run-rebuilt}
 use Rattle.network.specs.Demand.{Figures, WholeAmperes, Demand, verdictAt}
@@ -18,7 +19,7 @@ use Rattle.printing.specs.laws.Printed.{figuresText}
 use Rattle.printing.specs.laws.WholePrinted.{amperes-printed}
 use Rattle.reader.specs.File.{readOf, calls}
 use Rattle.reader.specs.laws.FileAsCalls.{read-run, read-closed}
-use Rattle.noldveig.specs.Rows.{crlf, busRow, verdictBy, rowText}
+use Rattle.noldveig.specs.Rows.{crlf, busRow, rowText}
 
 -- the row of a bus by six whole numbers: number,lower,upper,lower,upper,peak,peak,letter and CRLF
 abbrev pub figuresRow : ℕ → Figures → Verdict → List ℕ
@@ -50,5 +51,5 @@ row-holds text e b l = rw (← read-run text e) held
         let d = row-demand made (read-closed text e) b l in
         record {
           demand = d;
-          printed = row-printed b (reportedAt n b) (d .figures) (verdictBy n b (reportedAt n b)) (d .whole) ∙ ap (figuresRow b (d .figures)) (verdict-rated made b l (reportedAt n b) (d .figures) (d .whole));
+          printed = row-printed b (reportedAt n b) (d .figures) (ratedVerdict (busAt (n .buses) b) (reportedAt n b)) (d .whole) ∙ ap (figuresRow b (d .figures)) (verdict-rated made b l (reportedAt n b) (d .figures) (d .whole));
         }

@@ -1,6 +1,6 @@
--- `closed_queries` meets its contract. The invariant: the answers so far are added up.
+-- `closed_queries` meets its contract. The invariant: the answers so far are added up. The measure is how many are left.
 use mathlib.Core.Path.{_≡_, refl, sym, ap, ap₂, _∙_}
-use Prim.Native.Nat.{_-_, _≤_}
+use Prim.Native.Nat.{_+_, _-_, _≤_}
 use native.Mathlib.Omega.{arith}
 use lib.Ieee.{binary64, add, ofBits}
 use Rattle.network.specs.Network.{network}
@@ -11,10 +11,13 @@ use Rattle.bench.proofs.closings.closed_queries.Statement.{statement}
 use Rattle.bench.proofs.closings.closed_queries.Tie as tie
 
 abbrev Inv-loop : tie.InvT-loop
-Inv-loop s n k total₀ i₀ total i = (i ≤ k) × (total ≡ sumsOf (afterClose (network s)) n i)
+Inv-loop s last k n total₀ i₀ total i = (i ≤ k) × (total ≡ sumsOf (afterClose (network s)) (last + 1) i)
 
 abbrev μ-loop : tie.MeasureT-loop
-μ-loop s n k total₀ i₀ total i = k - i
+μ-loop s last k n total₀ i₀ total i = k - i
+
+add-n : tie.Need-add-n Inv-loop μ-loop
+add-n c = search needs
 
 loop-holds : tie.Need-loop-holds Inv-loop μ-loop
 unfolding sumsOf ofBits
@@ -45,14 +48,14 @@ loop-again c =
     let closed = c .before .before .close .ensures .1 .1 in (
       omega arith,
       ap₂ (add binary64) (l .loop .inv .1) (c .sum-of .ensures ∙ ap sumOf (c .before .query .ensures .1 .0 ∙ rw closed))
-          ∙ sym (sums-more (afterClose (network (a .s))) (a .n) (l .loop .i)),
+          ∙ sym (sums-more (afterClose (network (a .s))) (a .last + 1) (l .loop .i)),
     )
 
 returns : tie.Need-returns Inv-loop μ-loop
 returns c =
     let a = c .before .before .args in
     let i : c .before .loop .i ≡ a .k = omega arith in
-    c .before .loop .inv .1 ∙ ap (sumsOf (afterClose (network (a .s))) (a .n)) i
+    c .before .loop .inv .1 ∙ ap (sumsOf (afterClose (network (a .s))) (a .last + 1)) i
 
 pub closed-queries-spec : {M : Type 1} → statement M
 closed-queries-spec =
@@ -60,6 +63,7 @@ closed-queries-spec =
     (tie.spec
     Inv-loop
     μ-loop
+    add-n
     loop-holds
     close-requires
     rem-query

@@ -1,8 +1,6 @@
 -- `console::calls::report_into` meets its contract: the table that `report` is lent is filled. Assumes nothing.
-use mathlib.Core.Path.{_≡_, ap, _∙_}
-use Prim.Native.Nat.{ℕ}
-use mathlib.Core.List.{List}
-use lib.ListN.{length, replicate, length-replicate}
+use mathlib.Core.Path.{ap, _∙_}
+use lib.ListN.{length, length-replicate}
 use lib.Ieee.{Float}
 use Rattle.network.specs.Network.{network}
 use Rattle.network.specs.Report.{reportNumber, reported}

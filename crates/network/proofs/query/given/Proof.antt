@@ -1,31 +1,18 @@
 -- `network::query::given` gives what Query defines. Assumes nothing.
 use mathlib.Core.Path.{_≡_, sym, ap, _∙_}
-use Prim.Native.Nat.{ℕ, _<_}
+use Prim.Native.Nat.{_<_}
 use native.Mathlib.Omega.{arith}
 use lib.ListN.{length}
 use borrow.Author.Tests.{not-true, not-false}
-use Rattle.enclosure.specs.Exact.{ofNat}
-use Rattle.elements.specs.Factors.{factorC}
-use Rattle.network.specs.declared.study.Bus.{Bus}
-use Rattle.network.specs.declared.query.Amperes.{Amperes}
-use Rattle.network.specs.declared.query.Found.{Found}
 use Rattle.tree.specs.Limits.{maxBuses}
-use Rattle.network.specs.Network.{Network, network, busAt, blank}
-use Rattle.network.specs.Demand.{amperesOf}
+use Rattle.network.specs.Network.{network, busAt, blank}
 use Rattle.sweep.specs.Sweep.{seenOf}
-use Rattle.network.specs.Doubles.{boardOf, seenAt, carriedAt, figuresBy, verdictOf}
-use Rattle.network.specs.laws.Query.{refused-whole, found-open, found-absent, found-there}
+use Rattle.network.specs.Doubles.{boardOf, seenAt, carriedAt}
+use Rattle.network.specs.laws.Query.{rowBy, answerBy, refused-whole, found-open, found-absent, found-there}
 use Rattle.network.proofs.Lists.{length-mapped, inside-array, read-counted}
 use borrow.Author.Needs.{needs}
 use Rattle.network.proofs.query.given.Statement.{statement}
 use Rattle.network.proofs.query.given.Tie as tie
-
--- what bus b gets, by a record
-abbrev rowBy : Network → ℕ → Bus → Amperes
-rowBy n b x = amperesOf (figuresBy (factorC (n .tolerance) (x .volts)) (x .volts) (seenAt n b) (carriedAt n b))
-
-abbrev answerBy : Network → ℕ → Bus → Found
-answerBy n b x = record { number = 0; amperes = rowBy n b x; verdict = verdictOf (rowBy n b x) (ofNat (x .rating)) (ofNat (x .«peak_rating»)) }
 
 whole : (c : tie.Start) → length (c .args .t1 .buses) ≡ maxBuses
 whole c = search (needs, length-mapped)
@@ -86,7 +73,7 @@ returns-3 c =
     let n = network s in
     let r = read-counted maxBuses (s .«bus_count») (s .buses) (whole o) b blank (inside d) in
     let f : q .row-at .result ≡ rowBy n b (busAt (s .buses) b) = rw (q .before .before .before .before .before .before .before .before .before .before .board-of .ensures) at (q .row-at .ensures (length (n .buses))) in
-    let g : record { number = 0; amperes = q .row-at .result; verdict = c .verdict-at .result } ≡ answerBy n b (busAt (s .buses) b) = rw (c .verdict-at .ensures, f) in
+    let g : record { number = 0; amperes = q .row-at .result; verdict = c .verdict-at .result } ≡ answerBy n b (busAt (s .buses) b) = rw (c .verdict-at .ensures .0, f) in
     g ∙ ap (answerBy n b) r ∙ sym (found-there n (not-false _ (d .before .before .if1 .left)) b (inside d))
 
 pub given-spec : {M : Type 1} → statement M

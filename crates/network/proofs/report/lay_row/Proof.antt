@@ -1,10 +1,8 @@
 -- `lay_row` lays six numbers, one after the other.
-use Prim.Native.Nat.{ℕ, suc, _+_}
-use mathlib.Core.Path.{_≡_, refl}
+use Prim.Native.Nat.{suc, _+_}
+use mathlib.Core.Path.{_≡_}
 use native.Mathlib.Omega.{arith}
-use lib.ListN.{length, set, length-set}
-use lib.Ieee.{Float}
-use mathlib.Core.List.{List}
+use lib.ListN.{set, length-set}
 use borrow.Author.Needs.{needs}
 use Rattle.network.proofs.report.lay_row.Statement.{statement}
 use Rattle.network.proofs.report.lay_row.Tie as tie

@@ -1,22 +1,20 @@
 -- `lay_rows` lays the rows of all buses. The invariant: those of the buses so far are laid.
-use Prim.Native.Nat.{ℕ, _+_, _*_, _-_, _≤_, _<_}
-use mathlib.Core.Path.{_≡_, refl, sym, _∙_, ap}
+use Prim.Native.Nat.{_*_, _-_, _≤_, _<_}
+use mathlib.Core.Path.{_≡_, refl, _∙_, ap}
 use native.Mathlib.Omega.{arith}
-use lib.ListN.{length, length-take}
+use lib.ListN.{length}
 use lib.Seq.{sets, length-sets}
 use borrow.Author.Needs.{needs}
 use Rattle.tree.specs.Limits.{maxBuses}
-use Rattle.elements.specs.Factors.{factorC}
 use Rattle.sweep.specs.Sweep.{seenOf}
-use Rattle.network.specs.declared.study.Bus.{Bus}
 use Rattle.network.specs.declared.query.Amperes.{Amperes}
-use Rattle.network.specs.Network.{Network, network, busAt, blank}
-use Rattle.network.specs.Demand.{amperesOf}
-use Rattle.network.specs.Doubles.{boardOf, seenAt, carriedAt, figuresBy}
+use Rattle.network.specs.Network.{network, busAt, blank}
+use Rattle.network.specs.Doubles.{boardOf, seenAt, carriedAt}
 use Rattle.network.specs.Report.{reportedAt, rowNumbers, rowsNumbers, reported}
+use Rattle.network.specs.laws.Query.{rowBy}
 use Rattle.network.specs.laws.Report.{rows-length, rows-more}
 use Rattle.network.specs.laws.Tables.{laid-sets}
-use Rattle.network.proofs.Lists.{length-mapped, count-most, inside-array, read-counted}
+use Rattle.network.proofs.Lists.{length-mapped, inside-array, read-counted}
 use Rattle.network.proofs.report.lay_rows.Statement.{statement}
 use Rattle.network.proofs.report.lay_rows.Tie as tie
 
@@ -28,10 +26,6 @@ Inv-loop s table₀ total buses board b₀ table b =
 
 abbrev μ-loop : tie.MeasureT-loop
 μ-loop s table₀ total buses board b₀ table b = total - b
-
--- what bus b gets, by a record
-abbrev rowBy : Network → ℕ → Bus → Amperes
-rowBy n b x = amperesOf (figuresBy (factorC (n .tolerance) (x .volts)) (x .volts) (seenAt n b) (carriedAt n b))
 
 whole : (c : tie.Start Inv-loop μ-loop) → length (c .args .s .buses) ≡ maxBuses
 whole c = search (needs, length-mapped)

@@ -1,7 +1,6 @@
 -- `report_number` meets its contract, by its three cases.
-use mathlib.Core.Path.{_≡_, _∙_}
+use mathlib.Core.Path.{_∙_}
 use native.Mathlib.Omega.{arith}
-use borrow.Author.Needs.{needs}
 use borrow.Author.Tests.{not-true, not-false}
 use Rattle.network.specs.laws.Report.{report-open, report-short, report-accepted}
 use Rattle.network.proofs.report.report_number.Statement.{statement}
