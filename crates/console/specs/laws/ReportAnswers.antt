@@ -40,34 +40,34 @@ unfolding numbersText amperesText
 row-text table b = simp (append-nil, append-assoc)
 
 module _ (n : Network) (lent table : List Float) (h : ReportHolds n lent table) (room : 6 * length (n .buses) ≤ length lent) where
-  -- the six whole numbers of bus b by the promise, none where there is no such bus
-  abbrev pub figuresBy : (b : ℕ) (t : Bool) → ltb b (length (n .buses)) ≡ t → Figures
-  figuresBy b true e = h .rows b (ltb-true b (length (n .buses)) e) .figures
-  figuresBy b false e = record { lower = 0; upper = 0; «converters_lower» = 0; «converters_upper» = 0; peak = 0; «converters_peak» = 0 }
+  -- the six whole numbers of bus b by the promise; by whether there is such a bus, and zeros where there is none
+  abbrev pub figuresIf : (b : ℕ) (t : Bool) → ltb b (length (n .buses)) ≡ t → Figures
+  figuresIf b true e = h .rows b (ltb-true b (length (n .buses)) e) .figures
+  figuresIf b false e = record { lower = 0; upper = 0; «converters_lower» = 0; «converters_upper» = 0; peak = 0; «converters_peak» = 0 }
 
-  abbrev pub figuresOf : ℕ → Figures
-  figuresOf b = figuresBy b (ltb b (length (n .buses))) refl
+  abbrev pub promisedFigures : ℕ → Figures
+  promisedFigures b = figuresIf b (ltb b (length (n .buses))) refl
 
-  whole : (b : ℕ) → b < length (n .buses) → WholeAmperes (rowIn table b) (figuresOf b)
+  whole : (b : ℕ) → b < length (n .buses) → WholeAmperes (rowIn table b) (promisedFigures b)
   whole b l = go (ltb b (length (n .buses))) refl
     where
-      go : (t : Bool) (e : ltb b (length (n .buses)) ≡ t) → WholeAmperes (rowIn table b) (figuresBy b t e)
+      go : (t : Bool) (e : ltb b (length (n .buses)) ≡ t) → WholeAmperes (rowIn table b) (figuresIf b t e)
       go true e = h .rows b (ltb-true b (length (n .buses)) e) .whole
       go false e = absurd (let m = ltb-false b (length (n .buses)) e in omega arith)
 
-  first-rows : (k : ℕ) → k ≤ length (n .buses) → numbersText (take (6 * k) table) ≡ rowsText figuresOf k
+  first-rows : (k : ℕ) → k ≤ length (n .buses) → numbersText (take (6 * k) table) ≡ rowsText promisedFigures k
   unfolding numbersText rowsText
   first-rows zero l = refl
   first-rows (suc k) l =
       let t : 6 * suc k ≡ 6 * k + 6 = omega arith in
       let long : length table ≡ length lent = h .beyond .0 in
-      let row = ap numbersText (row-at table k (omega arith)) ∙ row-text table k ∙ amperes-printed (rowIn table k) (figuresOf k) (whole k (omega arith)) in
+      let row = ap numbersText (row-at table k (omega arith)) ∙ row-text table k ∙ amperes-printed (rowIn table k) (promisedFigures k) (whole k (omega arith)) in
       ap numbersText (ap (λ (i : ℕ). take i table) t ∙ take-add (6 * k) 6 table)
       ∙ numbers-both (take (6 * k) table) (take 6 (drop (6 * k) table))
       ∙ rw (row, first-rows k (omega arith))
 
   -- what `report` promises of an accepted call
-  pub report-line-holds : reportLine 0 table ≡ decimal 0 ++ (rowsText figuresOf (length (n .buses)) ++ numbersText (drop (6 * length (n .buses)) lent)) ++ (lf ∷ [])
+  pub report-line-holds : reportLine 0 table ≡ decimal 0 ++ (rowsText promisedFigures (length (n .buses)) ++ numbersText (drop (6 * length (n .buses)) lent)) ++ (lf ∷ [])
   unfolding reportLine
   report-line-holds =
       let m = 6 * length (n .buses) in
