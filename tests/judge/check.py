@@ -86,6 +86,20 @@ def difference(answer, due):
     return f"{one!r} from byte {at} on where {other!r} is due"
 
 
+def shown_table(call, number, answer, zeros, room):
+    """Of an answer that shows all of a lent table: the numbers behind the ground's where the call is
+    accepted, or None, and what is wrong.  A refused call gives zeros and the table as it was."""
+    if number:
+        due = ",".join(map(str, (number, *zeros, *[TABLE_FILL] * room)))
+        return None, "" if answer == due else f"{answer[:60]!r} where {due[:60]!r} is due"
+    numbers = numbers_of(answer.split(","))
+    if numbers is None or len(numbers) != 1 + len(zeros) + room:
+        return None, f"{answer[:60]!r} is no answer to an accepted {call}"
+    if numbers[0] != 0:
+        return None, f"{call} refused with {numbers[0]} where it is accepted"
+    return numbers[1:], ""
+
+
 def given_alike(given, study):
     """What was given for networks alike in all but their converters, by bus; `given` has it by network."""
     machines = tuple(source for source in study.sources if source.kind != CONVERTER)
@@ -188,14 +202,8 @@ class Checker:
         self.tally.breakings[number] += 1
         if number:
             self.tally.refused[number] += 1
-            due = ",".join(map(str, (number, 0, *[TABLE_FILL] * room)))
-            return "" if answer == due else f"{answer[:60]!r} where {due[:60]!r} is due"
-        numbers = numbers_of(answer.split(","))
-        if numbers is None or len(numbers) != 2 + room:
-            return f"{answer[:60]!r} is no answer to an accepted breaking"
-        if numbers[0] != 0:
-            return f"breaking refused with {numbers[0]} where it is accepted"
-        return self.table_reason(study, bus, delay, numbers[1], numbers[2:])
+        numbers, reason = shown_table("breaking", number, answer, [0], room)
+        return reason if numbers is None else self.table_reason(study, bus, delay, numbers[0], numbers[1:])
 
     def table_reason(self, study, bus, delay, figure, table):
         count = 2 * len(study.sources)
@@ -221,14 +229,8 @@ class Checker:
         self.tally.reports[number] += 1
         if number:
             self.tally.refused[number] += 1
-            due = ",".join(map(str, (number, *[TABLE_FILL] * room)))
-            return "" if answer == due else f"{answer[:60]!r} where {due[:60]!r} is due"
-        numbers = numbers_of(answer.split(","))
-        if numbers is None or len(numbers) != 1 + room:
-            return f"{answer[:60]!r} is no answer to an accepted report"
-        if numbers[0] != 0:
-            return f"report refused with {numbers[0]} where it is accepted"
-        return self.rows_reason(study, numbers[1:])
+        numbers, reason = shown_table("report", number, answer, [], room)
+        return reason if numbers is None else self.rows_reason(study, numbers)
 
     def rows_reason(self, study, table):
         """Each row for itself: it need not be what a query of its bus gives, and rows of alike

@@ -2,7 +2,7 @@
 use Prim.Native.Nat.{suc, _+_}
 use mathlib.Core.Path.{_≡_}
 use native.Mathlib.Omega.{arith}
-use lib.ListN.{set, length-set}
+use lib.ListN.{length-set}
 use borrow.Author.Needs.{needs}
 use Rattle.network.proofs.report.lay_row.Statement.{statement}
 use Rattle.network.proofs.report.lay_row.Tie as tie
@@ -20,11 +20,7 @@ mul-table-2 : tie.Need-mul-table-2
 mul-table-2 c = search needs
 
 slice-write-table-2 : tie.Need-slice-write-table-2
-slice-write-table-2 c =
-    let t = c .args .table .now in
-    let at = c .args .at in
-    let a = c .args .a in
-    omega (arith, c .pre, length-set t at (a .lower .0))
+slice-write-table-2 c = simp length-set (omega (arith, c .pre))
 
 add-table-2 : tie.Need-add-table-2
 add-table-2 c = search needs
@@ -33,11 +29,7 @@ mul-table-3 : tie.Need-mul-table-3
 mul-table-3 c = search needs
 
 slice-write-table-3 : tie.Need-slice-write-table-3
-slice-write-table-3 c =
-    let t = c .args .table .now in
-    let at = c .args .at in
-    let a = c .args .a in
-    omega (arith, c .pre, length-set t at (a .lower .0), length-set (set t at (a .lower .0)) (at + 1) (a .upper .0))
+slice-write-table-3 c = simp length-set (omega (arith, c .pre))
 
 add-table-3 : tie.Need-add-table-3
 add-table-3 c = search needs
@@ -46,11 +38,7 @@ mul-table-4 : tie.Need-mul-table-4
 mul-table-4 c = search needs
 
 slice-write-table-4 : tie.Need-slice-write-table-4
-slice-write-table-4 c =
-    let t = c .args .table .now in
-    let at = c .args .at in
-    let a = c .args .a in
-    omega (arith, c .pre, length-set t at (a .lower .0), length-set (set t at (a .lower .0)) (at + 1) (a .upper .0), length-set (set (set t at (a .lower .0)) (at + 1) (a .upper .0)) (at + 2) (a .«converters_lower» .0))
+slice-write-table-4 c = simp length-set (omega (arith, c .pre))
 
 add-table-4 : tie.Need-add-table-4
 add-table-4 c = search needs
@@ -59,11 +47,7 @@ mul-table-5 : tie.Need-mul-table-5
 mul-table-5 c = search needs
 
 slice-write-table-5 : tie.Need-slice-write-table-5
-slice-write-table-5 c =
-    let t = c .args .table .now in
-    let at = c .args .at in
-    let a = c .args .a in
-    omega (arith, c .pre, length-set t at (a .lower .0), length-set (set t at (a .lower .0)) (at + 1) (a .upper .0), length-set (set (set t at (a .lower .0)) (at + 1) (a .upper .0)) (at + 2) (a .«converters_lower» .0), length-set (set (set (set t at (a .lower .0)) (at + 1) (a .upper .0)) (at + 2) (a .«converters_lower» .0)) (at + 3) (a .«converters_upper» .0))
+slice-write-table-5 c = simp length-set (omega (arith, c .pre))
 
 add-table-5 : tie.Need-add-table-5
 add-table-5 c = search needs
@@ -72,11 +56,7 @@ mul-table-6 : tie.Need-mul-table-6
 mul-table-6 c = search needs
 
 slice-write-table-6 : tie.Need-slice-write-table-6
-slice-write-table-6 c =
-    let t = c .args .table .now in
-    let at = c .args .at in
-    let a = c .args .a in
-    omega (arith, c .pre, length-set t at (a .lower .0), length-set (set t at (a .lower .0)) (at + 1) (a .upper .0), length-set (set (set t at (a .lower .0)) (at + 1) (a .upper .0)) (at + 2) (a .«converters_lower» .0), length-set (set (set (set t at (a .lower .0)) (at + 1) (a .upper .0)) (at + 2) (a .«converters_lower» .0)) (at + 3) (a .«converters_upper» .0), length-set (set (set (set (set t at (a .lower .0)) (at + 1) (a .upper .0)) (at + 2) (a .«converters_lower» .0)) (at + 3) (a .«converters_upper» .0)) (at + 4) (a .peak .0))
+slice-write-table-6 c = simp length-set (omega (arith, c .pre))
 
 same-length : tie.Need-same-length
 same-length c = search needs

@@ -34,6 +34,11 @@ whole c = search (needs, length-mapped)
 inside : (c : tie.In-loop Inv-loop μ-loop) → c .before .loop .b < length (network (c .before .before .before .before .before .before .before .args .s) .buses)
 inside c = omega (arith, c .before .loop .inv .1 .0, c .loop-test .taken)
 
+small : (c : tie.In-loop Inv-loop μ-loop) → c .before .loop .b < maxBuses
+small c =
+    let s = c .before .before .before .before .before .before .before .args .s in
+    inside-array maxBuses (s .«bus_count») (s .buses) (whole (c .before .before .before .before .before .before .before)) (c .before .loop .b) (inside c)
+
 bus-total-requires : tie.Need-bus-total-requires Inv-loop μ-loop
 bus-total-requires c κs = search needs
 
@@ -47,34 +52,22 @@ loop-holds c =
     (omega arith, (e, omega (arith, e, c .before .before .before .before .before .pre), refl), refl)
 
 mul-row-at : tie.Need-mul-row-at Inv-loop μ-loop
-mul-row-at c =
-    let s = c .before .before .before .before .before .before .before .args .s in
-    omega (arith, inside-array maxBuses (s .«bus_count») (s .buses) (whole (c .before .before .before .before .before .before .before)) (c .before .loop .b) (inside c))
+mul-row-at c = omega (arith, small c)
 
 element-copy-out-row-at : tie.Need-element-copy-out-row-at Inv-loop μ-loop
-element-copy-out-row-at c =
-    let s = c .before .before .before .before .before .before .before .args .s in
-    inside-array maxBuses (s .«bus_count») (s .buses) (whole (c .before .before .before .before .before .before .before)) (c .before .loop .b) (inside c)
+element-copy-out-row-at c = small c
 
 row-at-requires : tie.Need-row-at-requires Inv-loop μ-loop
 row-at-requires c κs = search needs
 
 mul-lay-row : tie.Need-mul-lay-row Inv-loop μ-loop
-mul-lay-row c =
-    let i = c .before .before .before .before .before .before .before .before .before .before .before in
-    let s = i .before .before .before .before .before .before .before .args .s in
-    let h = inside-array maxBuses (s .«bus_count») (s .buses) (whole (i .before .before .before .before .before .before .before)) (i .before .loop .b) (inside i) in
-    omega arith
+mul-lay-row c = omega (arith, small (c .before .before .before .before .before .before .before .before .before .before .before))
 
 lay-row-requires : tie.Need-lay-row-requires Inv-loop μ-loop
 lay-row-requires c κs = let l = c .before .before .before .before .before .before .before .before .before .before .before .before .loop in omega (arith, l .inv .1 .1, l .inv .1 .2, c .before .before .before .before .before .before .before .before .before .before .before .loop-test .taken)
 
 add-b : tie.Need-add-b Inv-loop μ-loop
-add-b c =
-    let i = c .before .before .before .before .before .before .before .before .before .before .before .before .before .before in
-    let s = i .before .before .before .before .before .before .before .args .s in
-    let h = inside-array maxBuses (s .«bus_count») (s .buses) (whole (i .before .before .before .before .before .before .before)) (i .before .loop .b) (inside i) in
-    omega arith
+add-b c = omega (arith, small (c .before .before .before .before .before .before .before .before .before .before .before .before .before .before))
 
 loop-less : tie.Need-loop-less Inv-loop μ-loop
 loop-less c = omega arith
