@@ -26,7 +26,8 @@ use Rattle.network.specs.SourceKinds.{rangesOk, fieldsOk, impedanceOf}
 use Rattle.network.specs.Grounds.{depthOk, busRecordNumber, busNumberIn, afterBusIn, sourceRecordNumber, sourceNumberIn, afterSourceIn, closeNumber, afterClose, Call, starting, addingBus, addingSource, closing, run}
 use Rattle.network.specs.laws.Rebuilt.{run-rebuilt}
 use Rattle.network.specs.Grid.{branchOf, aboveOf, belowOf, impedanceAt, convertersAt}
-use Rattle.network.specs.Query.{verdictGiven, foundGiven}
+use Rattle.network.specs.Query.{amperesGiven, verdictGiven, foundGiven}
+use Rattle.network.specs.Promise.{machinesOf}
 use Rattle.network.specs.laws.Promise.{kept}
 
 -- "Bus 0 at 10,000 V, feeder 100,000 kVA, ρ 0; bus 1 over a line r 0, x 1,000, 1,100 m, 1 circuit; at bus 1 a generator 10,000 V,
@@ -56,6 +57,17 @@ twoCalls = starting 10 ∷ addingBus first ∷ addingBus second ∷ addingSource
 two-made : run twoCalls ≡ two
 unfolding run afterBusIn busNumberIn busRecordNumber branchOk depthOk along afterSourceIn sourceNumberIn sourceRecordNumber rangesOk fieldsOk afterClose closeNumber
 two-made = refl
+
+-- the same without the converter
+abbrev bare : Network
+bare = closedAs true (openOf 10 (first ∷ second ∷ []) (infeed ∷ machine ∷ []))
+
+abbrev bareCalls : List Call
+bareCalls = starting 10 ∷ addingBus first ∷ addingBus second ∷ addingSource infeed ∷ addingSource machine ∷ closing ∷ []
+
+bare-made : run bareCalls ≡ bare
+unfolding run afterBusIn busNumberIn busRecordNumber branchOk depthOk along afterSourceIn sourceNumberIn sourceRecordNumber rangesOk fieldsOk afterClose closeNumber
+bare-made = refl
 
 impedances : (impedanceAt two 0 .re ≡ 0) × (1000 * impedanceAt two 0 .im ≡ 825 * impedanceAt two 0 .den) × (impedanceAt two 1 .re ≡ 0) × (10 * impedanceAt two 1 .im ≡ 11 * impedanceAt two 1 .den)
 unfolding seen through joined neighbour inverse branchOf aboveOf belowOf impedanceOf line feeder split generator splitOf rootOf sineOf rootUp factorC
@@ -98,6 +110,10 @@ module _ (f : Figures) (m : MachinesHold (driving two 0) (impedanceAt two 0) (f 
   unfolding seen through joined neighbour inverse branchOf aboveOf belowOf impedanceOf line feeder split generator splitOf rootOf sineOf rootUp factorC
   upper-least = above-last _ _ (f .upper) 7698 (m .above) (ltb→lt _ _ tt)
 
+  -- how wide they may be
+  widest : (7690 ≤ f .lower) × (f .upper ≤ 7707)
+  widest = (omega (arith, upper-least, m .narrow), omega (arith, lower-most, m .narrow))
+
   peak-most : f .peak < 1000004
   unfolding seen through joined neighbour inverse branchOf aboveOf belowOf impedanceOf line feeder split generator splitOf rootOf sineOf rootUp factorC peakOver peakUnder crest tOver tUnder numerator denominator
   peak-most = peak-few (f .peak) _ _ (m .crest) (ltb→lt _ _ tt)
@@ -131,6 +147,13 @@ two-close =
     let d = k .demand in
     k .verdict (d .figures) (d .whole) ∙ close (d .figures) (d .machines) (d .converters)
 
+-- the machines' figures are those of the network without the converter
+two-same : machinesOf (amperesGiven two 0) ≡ machinesOf (amperesGiven bare 0)
+unfolding foundGiven
+two-same =
+    let k = kept (rw two-made at (run-rebuilt twoCalls)) refl 0 (lit< tt) in
+    rw bare-made at (k .same bareCalls (rw bare-made refl) (rw bare-made (record { tolerance = refl; buses = refl; others = refl })))
+
 -- DOCUMENT 01'S STARRED POINTS, as one table
 pub record Starred : Type 0 where
   pub factors : factors.Starred
@@ -141,8 +164,10 @@ pub record Starred : Type 0 where
   pub current : NotAbove (driving two 0) (impedanceAt two 0) 7698 × NotBelow (driving two 0) (impedanceAt two 0) 7699
   -- "200 A more"
   pub converters : convertersAt two 0 .re ≡ 200 * convertersAt two 0 .den
+  -- "networks alike in all but their converters": with the converter and without it
+  pub same : machinesOf (amperesGiven two 0) ≡ machinesOf (amperesGiven bare 0)
   -- "rating 7,898 with ample peak rating gives C"
   pub verdict : verdictGiven two 0 ≡ Close
 
 pub starred : Starred
-starred = record { factors = factors.starred; made = two-made; impedances = impedances; current = current; converters = converters; verdict = two-close }
+starred = record { factors = factors.starred; made = two-made; impedances = impedances; current = current; converters = converters; same = two-same; verdict = two-close }
