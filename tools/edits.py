@@ -33,27 +33,46 @@ def misplaced(edit):
     return None
 
 
+class Replacement(NamedTuple):
+    """A text of a file and what stands for it; if `within` is there, in the paragraph that begins with that."""
+
+    file: str
+    within: str
+    old: str
+    new: str
+
+    def made(self, text):
+        """The text of the file with the replacement; a ValueError says why it does not apply."""
+        before, begins, rest = text.partition(self.within) if self.within else ("", "", text)
+        if self.within and (not begins or self.within in rest):
+            raise ValueError(f"an 'in:' text is not in {self.file} just once")
+        place, blank, behind = rest.partition("\n\n") if self.within else (rest, "", "")
+        if not self.old or place.count(self.old) != 1:
+            raise ValueError(f"an 'old:' text is not in {self.file} just once")
+        return before + begins + place.replace(self.old, self.new) + blank + behind
+
+
 def replacements(edit):
-    """The file, the old text and the new text of each replacement, in the layout that rt reads."""
-    file = old = ""
+    """Each replacement, in the layout that rt reads, and with lines `in:`, which rt does not have. Such a line says in which paragraph the
+    texts behind it stand: a clause or a field may be worded like that of another function or record."""
+    file = within = old = ""
     for line in read(edit).splitlines():
         word, _, rest = line.partition(":")
         if word == "file":
-            file = rest[1:]
+            file, within = rest[1:], ""
+        elif word == "in":
+            within = rest[1:]
         elif word == "old":
             old = rest[1:]
         elif word == "new":
-            yield file, old, rest[1:]
+            yield Replacement(file, within, old, rest[1:])
 
 
 def edited(edit, folder):
     """The files of a folder that the edit changes, with their new text; a ValueError says which replacement does not apply."""
     texts = {}
-    for file, old, new in replacements(edit):
-        text = texts.get(file) or read(folder / file)
-        if not old or text.count(old) != 1:
-            raise ValueError(f"an 'old:' text is not in {file} just once")
-        texts[file] = text.replace(old, new)
+    for replacement in replacements(edit):
+        texts[replacement.file] = replacement.made(texts.get(replacement.file) or read(folder / replacement.file))
     if not texts:
         raise ValueError("it has no 'old:' and 'new:' pair")
     return texts
