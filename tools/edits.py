@@ -12,6 +12,8 @@ BEGINS = r'(?:pub(?:\(\w+\))? )?(?:extern "C" )?fn (?P<name>\w+)'
 OPENS = r"(?![^\n]*\b(?:ghost|requires|ensures)\b)[^\n]*\{\n"
 FUNCTION = re.compile(
     rf"^(?P<head>{BEGINS}(?:{OPENS}|[^\n]*\n(?:[ )][^\n]*\n)*?(?:\{{\n|\){OPENS})))(?P<body>(?:(?: [^\n]*)?\n)*?)\}}$", re.M)
+# A line that brings a function in, or what contracts name. Types and constants begin with a capital letter.
+BRINGS = re.compile(r"^(?:ghost use [^\n]*|(?:pub )?use (?:\w+::)*[a-z]\w*);\n", re.M)
 # The words of what is no part of a body, wherever it stands.
 ITEM = re.compile(r"\b(?:fn|const|static|struct|enum|type|use|mod|impl|trait|extern|ghost)\b")
 # What a body calls, as far as a name before a parenthesis shows it.
@@ -76,6 +78,18 @@ def edited(edit, folder):
     if not texts:
         raise ValueError("it has no 'old:' and 'new:' pair")
     return texts
+
+
+# ---- edits of definitions
+
+def changes_specs(edit):
+    """Whether an edit changes files of specs/ and no other."""
+    return not misplaced(edit) and all(made.file.startswith("specs/") for made in replacements(edit))
+
+
+def without_functions(text):
+    """What a source file declares besides functions."""
+    return BRINGS.sub("", FUNCTION.sub("", text))
 
 
 # ---- edits of one body

@@ -11,17 +11,21 @@ last step takes the theorem of what it calls, and what the prover says of that s
 "it calls .., which is not proved") never counts. So an edit counts as refused by such a run where its function is not proved and the
 first error in that function's own proof is that of a fact, as in a run for it alone; and only where nothing is at fault that was not
 changed. Every other edit is tried alone, and what that says counts. So a group can save time, and lets no edit pass that would not be
-refused alone."""
+refused alone.
+
+An edit of specs/ is tried first on the library without its functions: its types, constants, definitions and laws. No definition and no law
+rests on a function, so a law that fails there fails in the whole library. An edit that is not refused there is tried on the whole."""
 import os
 import re
 import shutil
 import subprocess
 import tempfile
 import time
+from contextlib import contextmanager
 from pathlib import Path
 from threading import Lock
 
-from edits import change_of, edited, groups_of, misplaced, read, together
+from edits import change_of, changes_specs, edited, groups_of, misplaced, read, together, without_functions
 from logs import PROVED, judge, refused_each
 
 # What rt ci says of a crate once its library is written.
@@ -154,9 +158,10 @@ def try_groups(folder, name, edits):
     return lines
 
 
-def try_edits(folder, name, edits):
-    """Tries a crate's edits: the lines to print, and each edit with what is wrong with it."""
-    lines, reasons = try_groups(folder, name, edits), []
+def try_edits(folder, name, edits, lines):
+    """Tries a crate's edits but those that have a line already: the lines to print, and each edit with what is wrong with it."""
+    left = [edit for edit in edits if edit not in lines]
+    lines, reasons = lines | try_groups(folder, name, left), []
     for edit in edits:
         reason = None
         if edit not in lines:
@@ -167,18 +172,51 @@ def try_edits(folder, name, edits):
     return [f"must-fail quick {name}/{edit.stem}: {lines[edit]}" for edit in edits], reasons
 
 
-def try_crate(name, edits, proved):
-    """Tries a crate's quick edits in a copy of the repository with the crates that it stands on proved: the lines to print, each edit with
-    what is wrong with it, and the seconds."""
-    lines, reasons, start = [], [], time.monotonic()
+@contextmanager
+def copy_of(name, proved):
+    """A copy of the repository for a crate's edits, in memory if that can be, with the crates that it stands on proved."""
     with tempfile.TemporaryDirectory(prefix="must-fail-", dir=work_place()) as place:
         folder = Path(place)
         copy_proved(folder, proved)
         begin_with_checked(folder, name, proved[0] if proved else name)
-        sound = PROVED.search(develop(folder, name))
+        yield folder
+
+
+def proved_before(folder, name):
+    """Whether the crate is proved without an edit; what rt dev makes then is kept, to be put back after each edit."""
+    sound = PROVED.search(develop(folder, name))
+    if sound:
+        shutil.copytree(folder / "target/inc" / name, folder / "kept")
+    return sound
+
+
+def try_definitions(name, edits, proved):
+    """Tries the edits of specs/ on the library without its functions: the lines to print of those that are refused, by edit."""
+    lines, edits = {}, [edit for edit in edits if changes_specs(edit)]
+    if not edits or not os.path.isfile(f"crates/{name}/src/lib.rt"):
+        return lines
+    with copy_of(name, proved) as folder:
+        crate = folder / "crates" / name
+        write(crate, {file.relative_to(crate): without_functions(read(file)) for file in crate.glob("src/**/*.rt")})
+        shutil.rmtree(crate / "proofs", ignore_errors=True)
+        if not proved_before(folder, name):
+            return lines
+        for edit in edits:
+            began = time.monotonic()
+            if try_edit(folder, name, edit) is None:
+                lines[edit] = f"{REFUSED} ({time.monotonic() - began:.1f} s without functions)"
+        return lines if PROVED.search(develop(folder, name)) else {}
+
+
+def try_crate(name, edits, proved):
+    """Tries a crate's quick edits in a copy of the repository with the crates that it stands on proved: the lines to print, each edit with
+    what is wrong with it, and the seconds."""
+    lines, reasons, start = [], [], time.monotonic()
+    refused = try_definitions(name, edits, proved)
+    with copy_of(name, proved) as folder:
+        sound = proved_before(folder, name)
         if sound:
-            shutil.copytree(folder / "target/inc" / name, folder / "kept")
-            lines, reasons = try_edits(folder, name, edits)
+            lines, reasons = try_edits(folder, name, edits, refused)
         if not sound or not PROVED.search(develop(folder, name)):
             reasons = [(edit, "rt dev does not prove the crate without the edit") for edit in edits]
     return lines, reasons, time.monotonic() - start
