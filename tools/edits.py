@@ -43,15 +43,21 @@ class Replacement(NamedTuple):
     old: str
     new: str
 
-    def made(self, text):
-        """The text of the file with the replacement; a ValueError says why it does not apply."""
-        before, begins, rest = text.partition(self.within) if self.within else ("", "", text)
-        if self.within and (not begins or self.within in rest):
+    def place(self, text):
+        """Where the old text begins in the text of the file; a ValueError says why the replacement does not apply."""
+        if self.within and text.count(self.within) != 1:
             raise ValueError(f"an 'in:' text is not in {self.file} just once")
-        place, blank, behind = rest.partition("\n\n") if self.within else (rest, "", "")
+        begins = text.find(self.within) + len(self.within)
+        ends = text.find("\n\n", begins) if self.within else -1
+        place = text[begins:ends if ends >= 0 else len(text)]
         if not self.old or place.count(self.old) != 1:
             raise ValueError(f"an 'old:' text is not in {self.file} just once")
-        return before + begins + place.replace(self.old, self.new) + blank + behind
+        return begins + place.find(self.old)
+
+    def made(self, text):
+        """The text of the file with the replacement."""
+        begins = self.place(text)
+        return text[:begins] + self.new + text[begins + len(self.old):]
 
 
 def replacements(edit):
