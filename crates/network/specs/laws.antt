@@ -28,3 +28,4 @@ pub mod Tables
 pub mod Report
 pub mod NearPeaks
 pub mod Worked
+pub mod WorkedReport

@@ -87,10 +87,10 @@ unfolding carriedWithout across joined neighbour aboveOf belowOf converter
 converters = eqb→eq (convertersAt two 0 .re) (200 * convertersAt two 0 .den) tt
 
 -- ---- the verdict at bus 0 is close, whichever bounds are given inside demand 3
-below-next : (x n l k : ℕ) → 30000 * (l * l) * n ≤ x → x < 30000 * (k * k) * n → l < k
+pub below-next : (x n l k : ℕ) → 30000 * (l * l) * n ≤ x → x < 30000 * (k * k) * n → l < k
 below-next x n l k h g = below-of-squares l k (lt-of-not-le (λ (q : k * k ≤ l * l). absurd (le→leb 1 0 (from (x ∷ n ∷ l ∷ k ∷ []) (h ⊹ g ⊹ 30000 * n ⋆ q) (search read depth 40 fits 20000) refl))))
 
-above-last : (x n u k : ℕ) → x ≤ 30000 * (u * u) * n → 30000 * (k * k) * n < x → k < u
+pub above-last : (x n u k : ℕ) → x ≤ 30000 * (u * u) * n → 30000 * (k * k) * n < x → k < u
 above-last x n u k h g = below-of-squares k u (lt-of-not-le (λ (q : u * u ≤ k * k). absurd (le→leb 1 0 (from (x ∷ n ∷ u ∷ k ∷ []) (h ⊹ g ⊹ 30000 * n ⋆ q) (search read depth 40 fits 20000) refl))))
 
 -- a peak is above whatever is below the exact one, and few amperes above a number that is too far above it
