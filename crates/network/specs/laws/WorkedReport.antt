@@ -1,5 +1,5 @@
--- What the promises of a query and of a report say of document 01's worked network, and of its nearer peaks, to the ampere: whoever keeps
--- them gives no more and no less. Each hypothesis of a promise is used. Assumes nothing.
+-- What the promises of a query and of a report say of document 01's worked network, to the ampere: which figures they leave open, and that
+-- they leave no others. Whatever a promise asks for is given here, so that none is one which never holds. Assumes nothing.
 use Prim.Native.Nat.{ℕ, zero, suc, _≤_, _<_}
 use mathlib.Core.Path.{_≡_, refl, sym, _∙_, ap}
 use mathlib.Core.List.{List, [], _∷_}
@@ -34,7 +34,39 @@ pub record Ranges (f : Figures) : Type 0 where
   pub peak : (21774 ≤ f .peak) × (f .peak ≤ 22212)
   pub «converters_peak» : (283 ≤ f .«converters_peak») × (f .«converters_peak» ≤ 292)
 
--- demand 3's own part of a bus's figures
+-- at bus 1 Z is 1.1 Ω, and I 5,773.50 A
+pub record SecondRanges (f : Figures) : Type 0 where
+  pub lower : f .lower ≤ 5773
+  pub upper : 5774 ≤ f .upper
+
+-- WHAT THE NEARER PEAKS LEAVE OPEN at bus 0: at most 0.15 % plus 1 A above the exact one, and a hundred-millionth plus 1 A
+pub record NearRanges (f : Figures) : Type 0 where
+  pub peak : (21774 ≤ f .peak) × (f .peak ≤ 21806)
+  pub «converters_peak» : f .«converters_peak» ≡ 283
+
+-- "Which bounds are given is free inside demand 3.": both ends of each range are inside
+pub record Ends : Type 0 where
+  pub machines-least : MachinesHold (driving two 0) (impedanceAt two 0) 7690 7699 21774
+  pub machines-most : MachinesHold (driving two 0) (impedanceAt two 0) 7698 7707 22212
+  pub converters-least : ConvertersHold (convertersAt two 0) 198 200 283
+  pub converters-most : ConvertersHold (convertersAt two 0) 200 202 292
+  pub near-least : MachinePeak (driving two 0) (impedanceAt two 0) 21774
+  pub near-most : MachinePeak (driving two 0) (impedanceAt two 0) 21806
+  pub near-converters : ConverterPeak (convertersAt two 0) 283
+
+ends : Ends
+unfolding seen through joined neighbour inverse branchOf aboveOf belowOf impedanceOf line feeder split generator splitOf rootOf sineOf rootUp factorC peakOver peakUnder crest tOver tUnder numerator denominator carriedWithout across converter
+ends = record {
+  machines-least = record { proper = ltb→lt _ _ tt; reactive = ltb→lt _ _ tt; below = leb→le _ _ tt; above = leb→le _ _ tt; narrow = leb→le _ _ tt; crest = record { no-lower = leb→le _ _ tt; near = λ m e. let q : m ≡ 21770 = omega arith in rw q (leb→le _ _ tt) } };
+  machines-most = record { proper = ltb→lt _ _ tt; reactive = ltb→lt _ _ tt; below = leb→le _ _ tt; above = leb→le _ _ tt; narrow = leb→le _ _ tt; crest = record { no-lower = leb→le _ _ tt; near = λ m e. let q : m ≡ 22208 = omega arith in rw q (leb→le _ _ tt) } };
+  converters-least = record { proper = ltb→lt _ _ tt; real = refl; below = leb→le _ _ tt; above = leb→le _ _ tt; narrow = leb→le _ _ tt; crest = record { no-lower = leb→le _ _ tt; near = λ m e. let q : m ≡ 279 = omega arith in rw q (leb→le _ _ tt) } };
+  converters-most = record { proper = ltb→lt _ _ tt; real = refl; below = leb→le _ _ tt; above = leb→le _ _ tt; narrow = leb→le _ _ tt; crest = record { no-lower = leb→le _ _ tt; near = λ m e. let q : m ≡ 288 = omega arith in rw q (leb→le _ _ tt) } };
+  near-least = record { no-lower = leb→le _ _ tt; near = λ m e. let q : m ≡ 21773 = omega arith in rw q (leb→le _ _ tt) };
+  near-most = record { no-lower = leb→le _ _ tt; near = λ m e. let q : m ≡ 21805 = omega arith in rw q (leb→le _ _ tt) };
+  near-converters = record { no-lower = leb→le _ _ tt; near = λ m e. let q : m ≡ 282 = omega arith in rw q (leb→le _ _ tt) };
+}
+
+-- ---- nothing beyond them is
 ranges : (f : Figures) → MachinesHold (driving two 0) (impedanceAt two 0) (f .lower) (f .upper) (f .peak)
     → ConvertersHold (convertersAt two 0) (f .«converters_lower») (f .«converters_upper») (f .«converters_peak») → Ranges f
 ranges f m c = record {
@@ -46,67 +78,12 @@ ranges f m c = record {
   «converters_peak» = (omega (arith, converters-peak-least f m c), omega (arith, converters-peak-most f m c));
 }
 
--- both ends of each range are left open by it
-abbrev MachinesEnd : ℕ → ℕ → ℕ → Type 0
-MachinesEnd = MachinesHold (driving two 0) (impedanceAt two 0)
-
-abbrev ConvertersEnd : ℕ → ℕ → ℕ → Type 0
-ConvertersEnd = ConvertersHold (convertersAt two 0)
-
-machines-ends : MachinesEnd 7690 7699 21774 × MachinesEnd 7698 7707 22212
-unfolding seen through joined neighbour inverse branchOf aboveOf belowOf impedanceOf line feeder split generator splitOf rootOf sineOf rootUp factorC peakOver peakUnder crest tOver tUnder numerator denominator
-machines-ends = (
-  record {
-    proper = ltb→lt _ _ tt;
-    reactive = ltb→lt _ _ tt;
-    below = leb→le _ _ tt;
-    above = leb→le _ _ tt;
-    narrow = leb→le _ _ tt;
-    crest = record { no-lower = leb→le _ _ tt; near = λ m e. let q : m ≡ 21770 = omega arith in rw q (leb→le _ _ tt) };
-  },
-  record {
-    proper = ltb→lt _ _ tt;
-    reactive = ltb→lt _ _ tt;
-    below = leb→le _ _ tt;
-    above = leb→le _ _ tt;
-    narrow = leb→le _ _ tt;
-    crest = record { no-lower = leb→le _ _ tt; near = λ m e. let q : m ≡ 22208 = omega arith in rw q (leb→le _ _ tt) };
-  },
-)
-
-converters-ends : ConvertersEnd 198 200 283 × ConvertersEnd 200 202 292
-unfolding carriedWithout across joined neighbour aboveOf belowOf converter
-converters-ends = (
-  record {
-    proper = ltb→lt _ _ tt;
-    real = refl;
-    below = leb→le _ _ tt;
-    above = leb→le _ _ tt;
-    narrow = leb→le _ _ tt;
-    crest = record { no-lower = leb→le _ _ tt; near = λ m e. let q : m ≡ 279 = omega arith in rw q (leb→le _ _ tt) };
-  },
-  record {
-    proper = ltb→lt _ _ tt;
-    real = refl;
-    below = leb→le _ _ tt;
-    above = leb→le _ _ tt;
-    narrow = leb→le _ _ tt;
-    crest = record { no-lower = leb→le _ _ tt; near = λ m e. let q : m ≡ 288 = omega arith in rw q (leb→le _ _ tt) };
-  },
-)
-
--- at bus 1, Z is 1.1 Ω: I is 5,773.50 A
-second-bounds : (lower upper peak : ℕ) → MachinesHold (driving two 1) (impedanceAt two 1) lower upper peak → (lower ≤ 5773) × (5774 ≤ upper)
+second-ranges : (f : Figures) → MachinesHold (driving two 1) (impedanceAt two 1) (f .lower) (f .upper) (f .peak) → SecondRanges f
 unfolding seen through joined neighbour inverse branchOf aboveOf belowOf impedanceOf line feeder split generator splitOf rootOf sineOf rootUp factorC
-second-bounds lower upper peak m =
-    let l : lower < 5774 = below-next _ _ lower 5774 (m .below) (ltb→lt _ _ tt) in
-    let u : 5773 < upper = above-last _ _ upper 5773 (m .above) (ltb→lt _ _ tt) in
-    (omega (arith, l), omega (arith, u))
-
--- ---- the nearer peaks, beside demand 3: at most 0.15 % plus 1 A above the exact 21,773.24 A, and a hundred-millionth plus 1 A above 282.84 A
-pub record NearRanges (f : Figures) : Type 0 where
-  pub peak : (21774 ≤ f .peak) × (f .peak ≤ 21806)
-  pub «converters_peak» : f .«converters_peak» ≡ 283
+second-ranges f m =
+    let l : f .lower < 5774 = below-next _ _ (f .lower) 5774 (m .below) (ltb→lt _ _ tt) in
+    let u : 5773 < f .upper = above-last _ _ (f .upper) 5773 (m .above) (ltb→lt _ _ tt) in
+    record { lower = omega (arith, l); upper = omega (arith, u) }
 
 module _ (f : Figures) (m : MachinePeak (driving two 0) (impedanceAt two 0) (f .peak)) (c : ConverterPeak (convertersAt two 0) (f .«converters_peak»)) where
   near-least : 21773 < f .peak
@@ -128,31 +105,32 @@ module _ (f : Figures) (m : MachinePeak (driving two 0) (impedanceAt two 0) (f .
   near-ranges : NearRanges f
   near-ranges = record { peak = (omega (arith, near-least), omega (arith, near-most)); «converters_peak» = omega (arith, near-converters-least, near-converters-most) }
 
-near-ends : MachinePeak (driving two 0) (impedanceAt two 0) 21774 × MachinePeak (driving two 0) (impedanceAt two 0) 21806
-unfolding seen through joined neighbour inverse branchOf aboveOf belowOf impedanceOf line feeder split generator splitOf rootOf sineOf rootUp factorC peakOver peakUnder crest tOver tUnder numerator denominator
-near-ends = (
-  record { no-lower = leb→le _ _ tt; near = λ m e. let q : m ≡ 21773 = omega arith in rw q (leb→le _ _ tt) },
-  record { no-lower = leb→le _ _ tt; near = λ m e. let q : m ≡ 21805 = omega arith in rw q (leb→le _ _ tt) },
-)
+-- ---- WHOEVER ANSWERS A QUERY, by the promise alone
+query-told : (f : Found) → Promise two 0 f → (g : Figures) → WholeAmperes (f .amperes) g → Ranges g
+query-told f p g w =
+    let d = told f p .demand in
+    rw (figures-one (f .amperes) g (d .figures) w (d .whole)) (ranges (d .figures) (d .machines) (d .converters))
 
--- ---- whoever keeps the promises of a query, by them alone
-module _ (f : Found) (g : Figures) (w : WholeAmperes (f .amperes) g) where
-  query-ranges : Promise two 0 f → Ranges g
-  query-ranges p =
-      let d = told f p .demand in
-      rw (figures-one (f .amperes) g (d .figures) w (d .whole)) (ranges (d .figures) (d .machines) (d .converters))
+second-told : (f : Found) → Promise two 1 f → (g : Figures) → WholeAmperes (f .amperes) g → SecondRanges g
+second-told f p g w =
+    let d = p twoCalls (sym two-made) refl (lit< tt) .demand in
+    rw (figures-one (f .amperes) g (d .figures) w (d .whole)) (second-ranges (d .figures) (d .machines))
 
-  query-second : Promise two 1 f → (g .lower ≤ 5773) × (5774 ≤ g .upper)
-  query-second p =
-      let d = p twoCalls (sym two-made) refl (lit< tt) .demand in
-      rw (figures-one (f .amperes) g (d .figures) w (d .whole)) (second-bounds _ _ _ (d .machines))
+near-told : (f : Found) → NearPromise two 0 f → (g : Figures) → WholeAmperes (f .amperes) g → NearRanges g
+near-told f p g w =
+    let d = p twoCalls (sym two-made) refl (lit< tt) in
+    rw (figures-one (f .amperes) g (d .figures) w (d .whole)) (near-ranges (d .figures) (d .machines) (d .converters))
 
-  query-near : NearPromise two 0 f → NearRanges g
-  query-near p =
-      let d = p twoCalls (sym two-made) refl (lit< tt) in
-      rw (figures-one (f .amperes) g (d .figures) w (d .whole)) (near-ranges (d .figures) (d .machines) (d .converters))
+-- ---- WHOEVER REPORTS ITS TWO BUSES into a table of 13 numbers, by the promise alone
+pub record Rows (lent table : List Float) : Type 0 where
+  -- "Every row meets demand 3 as a single query does, the peaks .."
+  pub first : (g : Figures) → WholeAmperes (rowIn table 0) g → Ranges g
+  pub second : (g : Figures) → WholeAmperes (rowIn table 1) g → SecondRanges g
+  -- ".. and the sameness for networks alike in all but their converters included": with the converter and without it
+  pub same : (b : ℕ) → b < 2 → machinesOf (rowIn table b) ≡ machinesOf (reportedAt bare b)
+  -- "Numbers beyond the last bus's row are kept.": the 13th
+  pub beyond : (length table ≡ 13) × (getD table 12 nan ≡ getD lent 12 nan)
 
--- ---- whoever keeps the promises of a report of it, of two buses, into a table of 13 numbers
 number-beyond : (k : ℕ) (l : List Float) → getD (drop k l) 0 nan ≡ getD l k nan
 number-beyond zero l = refl
 number-beyond (suc k) [] = refl
@@ -163,61 +141,37 @@ module _ (lent table : List Float) (thirteen : length lent ≡ 13) where
   unfolding reportNumber
   accepted = rw thirteen refl
 
-  module _ (p : ReportPromise two lent table) where
-    holds : ReportHolds two lent table
-    holds = p twoCalls (sym two-made) accepted
-
-    row-ranges : (g : Figures) → WholeAmperes (rowIn table 0) g → Ranges g
-    row-ranges g w =
+  report-told : ReportPromise two lent table → Rows lent table
+  report-told p = record {
+    first = λ g w.
         let d = holds .rows 0 (lit< tt) in
-        rw (figures-one (rowIn table 0) g (d .figures) w (d .whole)) (ranges (d .figures) (d .machines) (d .converters))
-
-    row-second : (g : Figures) → WholeAmperes (rowIn table 1) g → (g .lower ≤ 5773) × (5774 ≤ g .upper)
-    row-second g w =
+        rw (figures-one (rowIn table 0) g (d .figures) w (d .whole)) (ranges (d .figures) (d .machines) (d .converters));
+    second = λ g w.
         let d = holds .rows 1 (lit< tt) in
-        rw (figures-one (rowIn table 1) g (d .figures) w (d .whole)) (second-bounds _ _ _ (d .machines))
+        rw (figures-one (rowIn table 1) g (d .figures) w (d .whole)) (second-ranges (d .figures) (d .machines));
+    same = λ b l. rw bare-made at (holds .same b l bareCalls (rw bare-made refl) (rw bare-made (record { tolerance = refl; buses = refl; others = refl })));
+    beyond = (holds .beyond .0 ∙ thirteen, sym (number-beyond 12 table) ∙ ap (λ (l : List Float). getD l 0 nan) (holds .beyond .1) ∙ number-beyond 12 lent);
+  }
+    where
+      holds : ReportHolds two lent table
+      holds = p twoCalls (sym two-made) accepted
 
-    row-same : (b : ℕ) → b < 2 → machinesOf (rowIn table b) ≡ machinesOf (reportedAt bare b)
-    row-same b l = rw bare-made at (holds .same b l bareCalls (rw bare-made refl) (rw bare-made (record { tolerance = refl; buses = refl; others = refl })))
-
-    last-kept : (length table ≡ 13) × (getD table 12 nan ≡ getD lent 12 nan)
-    last-kept = (holds .beyond .0 ∙ thirteen, sym (number-beyond 12 table) ∙ ap (λ (l : List Float). getD l 0 nan) (holds .beyond .1) ∙ number-beyond 12 lent)
-
-  row-near : NearReport two lent table → (g : Figures) → WholeAmperes (rowIn table 0) g → NearRanges g
-  row-near p g w =
+  near-rows-told : NearReport two lent table → (g : Figures) → WholeAmperes (rowIn table 0) g → NearRanges g
+  near-rows-told p g w =
       let d = p twoCalls (sym two-made) accepted 0 (lit< tt) in
       rw (figures-one (rowIn table 0) g (d .figures) w (d .whole)) (near-ranges (d .figures) (d .machines) (d .converters))
 
--- WHAT THE PROMISES SAY of document 01's worked network, as one table
+-- WHAT THE PROMISES SAY OF DOCUMENT 01'S WORKED NETWORK, as one table
 pub record Told : Type 0 where
-  -- "Which bounds are given is free inside demand 3.": each of these is
-  pub machines-ends : MachinesEnd 7690 7699 21774 × MachinesEnd 7698 7707 22212
-  pub converters-ends : ConvertersEnd 198 200 283 × ConvertersEnd 200 202 292
-  pub near-ends : MachinePeak (driving two 0) (impedanceAt two 0) 21774 × MachinePeak (driving two 0) (impedanceAt two 0) 21806
-  -- and no others, whoever answers the query
-  pub query : (f : Found) (g : Figures) → WholeAmperes (f .amperes) g → Promise two 0 f → Ranges g
-  pub query-second : (f : Found) (g : Figures) → WholeAmperes (f .amperes) g → Promise two 1 f → (g .lower ≤ 5773) × (5774 ≤ g .upper)
-  pub query-near : (f : Found) (g : Figures) → WholeAmperes (f .amperes) g → NearPromise two 0 f → NearRanges g
-  -- "Every row meets demand 3 as a single query does, the peaks .."
-  pub row : (lent table : List Float) → length lent ≡ 13 → ReportPromise two lent table → (g : Figures) → WholeAmperes (rowIn table 0) g → Ranges g
-  pub row-second : (lent table : List Float) → length lent ≡ 13 → ReportPromise two lent table → (g : Figures) → WholeAmperes (rowIn table 1) g → (g .lower ≤ 5773) × (5774 ≤ g .upper)
-  pub row-near : (lent table : List Float) → length lent ≡ 13 → NearReport two lent table → (g : Figures) → WholeAmperes (rowIn table 0) g → NearRanges g
-  -- ".. and the sameness for networks alike in all but their converters included": with the converter and without it
-  pub same : (lent table : List Float) → length lent ≡ 13 → ReportPromise two lent table → (b : ℕ) → b < 2 → machinesOf (rowIn table b) ≡ machinesOf (reportedAt bare b)
-  -- "Numbers beyond the last bus's row are kept.": the 13th
-  pub beyond : (lent table : List Float) → length lent ≡ 13 → ReportPromise two lent table → (length table ≡ 13) × (getD table 12 nan ≡ getD lent 12 nan)
+  pub ends : Ends
+  -- "Z is 0.825 Ω at bus 0 and 1.1 Ω at bus 1.": demand 3 of a query there
+  pub query : (f : Found) → Promise two 0 f → (g : Figures) → WholeAmperes (f .amperes) g → Ranges g
+  pub query-second : (f : Found) → Promise two 1 f → (g : Figures) → WholeAmperes (f .amperes) g → SecondRanges g
+  -- beside demand 3
+  pub query-near : (f : Found) → NearPromise two 0 f → (g : Figures) → WholeAmperes (f .amperes) g → NearRanges g
+  -- "one call fills a lent table, six amperes a bus from bus 0 up"
+  pub report : (lent table : List Float) → length lent ≡ 13 → ReportPromise two lent table → Rows lent table
+  pub report-near : (lent table : List Float) → length lent ≡ 13 → NearReport two lent table → (g : Figures) → WholeAmperes (rowIn table 0) g → NearRanges g
 
-pub all-told : Told
-all-told = record {
-  machines-ends = machines-ends;
-  converters-ends = converters-ends;
-  near-ends = near-ends;
-  query = query-ranges;
-  query-second = query-second;
-  query-near = query-near;
-  row = row-ranges;
-  row-second = row-second;
-  row-near = row-near;
-  same = row-same;
-  beyond = last-kept;
-}
+pub told-all : Told
+told-all = record { ends = ends; query = query-told; query-second = second-told; query-near = near-told; report = report-told; report-near = near-rows-told }
