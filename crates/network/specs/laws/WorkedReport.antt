@@ -54,7 +54,7 @@ pub record Ends : Type 0 where
   pub near-most : MachinePeak (driving two 0) (impedanceAt two 0) 21806
   pub near-converters : ConverterPeak (convertersAt two 0) 283
 
-ends : Ends
+pub ends : Ends
 unfolding seen through joined neighbour inverse branchOf aboveOf belowOf impedanceOf line feeder split generator splitOf rootOf sineOf rootUp factorC peakOver peakUnder crest tOver tUnder numerator denominator carriedWithout across converter
 ends = record {
   machines-least = record { proper = ltb→lt _ _ tt; reactive = ltb→lt _ _ tt; below = leb→le _ _ tt; above = leb→le _ _ tt; narrow = leb→le _ _ tt; crest = record { no-lower = leb→le _ _ tt; near = λ m e. let q : m ≡ 21770 = omega arith in rw q (leb→le _ _ tt) } };
@@ -163,7 +163,6 @@ module _ (lent table : List Float) (thirteen : length lent ≡ 13) where
 
 -- WHAT THE PROMISES SAY OF DOCUMENT 01'S WORKED NETWORK, as one table
 pub record Told : Type 0 where
-  pub ends : Ends
   -- "Z is 0.825 Ω at bus 0 and 1.1 Ω at bus 1.": demand 3 of a query there
   pub query : (f : Found) → Promise two 0 f → (g : Figures) → WholeAmperes (f .amperes) g → Ranges g
   pub query-second : (f : Found) → Promise two 1 f → (g : Figures) → WholeAmperes (f .amperes) g → SecondRanges g
@@ -174,4 +173,4 @@ pub record Told : Type 0 where
   pub report-near : (lent table : List Float) → length lent ≡ 13 → NearReport two lent table → (g : Figures) → WholeAmperes (rowIn table 0) g → NearRanges g
 
 pub told-all : Told
-told-all = record { ends = ends; query = query-told; query-second = second-told; query-near = near-told; report = report-told; report-near = near-rows-told }
+told-all = record { query = query-told; query-second = second-told; query-near = near-told; report = report-told; report-near = near-rows-told }
