@@ -1,6 +1,6 @@
 -- What the promises of a query and of a report say of document 01's worked network, to the ampere: which figures they leave open, and that
 -- they leave no others. Whatever a promise asks for is given here, so that none is one which never holds. Assumes nothing.
-use Prim.Native.Nat.{ℕ, zero, suc, _≤_, _<_}
+use Prim.Native.Nat.{ℕ, zero, suc, _*_, _-_, _≤_, _<_}
 use mathlib.Core.Path.{_≡_, refl, sym, _∙_, ap}
 use mathlib.Core.List.{List, [], _∷_}
 use native.Mathlib.Omega.{arith}
@@ -9,7 +9,7 @@ use lib.Ieee.{Float, nan}
 use lib.ListN.{length, getD, drop}
 use Rattle.enclosure.specs.Exact.{inverse, rootOf, rootUp}
 use Rattle.elements.specs.Factors.{tOver, tUnder, numerator, denominator, factorC, sineOf, splitOf}
-use Rattle.elements.specs.Peak.{peakOver, peakUnder, crest}
+use Rattle.elements.specs.Peak.{PeakBound, NearPeak, peakOver, peakUnder, crest}
 use Rattle.elements.specs.Impedance.{line, split, feeder, generator, converter}
 use Rattle.tree.specs.Grid.{joined, neighbour, through, seen, across, carriedWithout}
 use Rattle.network.specs.declared.query.Found.{Found}
@@ -54,16 +54,22 @@ pub record Ends : Type 0 where
   pub near-most : MachinePeak (driving two 0) (impedanceAt two 0) 21806
   pub near-converters : ConverterPeak (convertersAt two 0) 283
 
+bound-of : (n e v : ℕ) → e ≤ n * n * v → 10000 * ((n - 4) * (n - 4)) * v ≤ 10404 * e → PeakBound n e v
+bound-of n e v l h = record { no-lower = l; near = λ m q. let z : m ≡ n - 4 = omega arith in rw z h }
+
+near-of : (over under n e v : ℕ) → e ≤ n * n * v → under * under * ((n - 1) * (n - 1)) * v ≤ over * over * e → NearPeak over under n e v
+near-of over under n e v l h = record { no-lower = l; near = λ m q. let z : m ≡ n - 1 = omega arith in rw z h }
+
 pub ends : Ends
 unfolding seen through joined neighbour inverse branchOf aboveOf belowOf impedanceOf line feeder split generator splitOf rootOf sineOf rootUp factorC peakOver peakUnder crest tOver tUnder numerator denominator carriedWithout across converter
 ends = record {
-  machines-least = record { proper = ltb→lt _ _ tt; reactive = ltb→lt _ _ tt; below = leb→le _ _ tt; above = leb→le _ _ tt; narrow = leb→le _ _ tt; crest = record { no-lower = leb→le _ _ tt; near = λ m e. let q : m ≡ 21770 = omega arith in rw q (leb→le _ _ tt) } };
-  machines-most = record { proper = ltb→lt _ _ tt; reactive = ltb→lt _ _ tt; below = leb→le _ _ tt; above = leb→le _ _ tt; narrow = leb→le _ _ tt; crest = record { no-lower = leb→le _ _ tt; near = λ m e. let q : m ≡ 22208 = omega arith in rw q (leb→le _ _ tt) } };
-  converters-least = record { proper = ltb→lt _ _ tt; real = refl; below = leb→le _ _ tt; above = leb→le _ _ tt; narrow = leb→le _ _ tt; crest = record { no-lower = leb→le _ _ tt; near = λ m e. let q : m ≡ 279 = omega arith in rw q (leb→le _ _ tt) } };
-  converters-most = record { proper = ltb→lt _ _ tt; real = refl; below = leb→le _ _ tt; above = leb→le _ _ tt; narrow = leb→le _ _ tt; crest = record { no-lower = leb→le _ _ tt; near = λ m e. let q : m ≡ 288 = omega arith in rw q (leb→le _ _ tt) } };
-  near-least = record { no-lower = leb→le _ _ tt; near = λ m e. let q : m ≡ 21773 = omega arith in rw q (leb→le _ _ tt) };
-  near-most = record { no-lower = leb→le _ _ tt; near = λ m e. let q : m ≡ 21805 = omega arith in rw q (leb→le _ _ tt) };
-  near-converters = record { no-lower = leb→le _ _ tt; near = λ m e. let q : m ≡ 282 = omega arith in rw q (leb→le _ _ tt) };
+  machines-least = record { proper = ltb→lt _ _ tt; reactive = ltb→lt _ _ tt; below = leb→le _ _ tt; above = leb→le _ _ tt; narrow = leb→le _ _ tt; crest = bound-of _ _ _ (leb→le _ _ tt) (leb→le _ _ tt) };
+  machines-most = record { proper = ltb→lt _ _ tt; reactive = ltb→lt _ _ tt; below = leb→le _ _ tt; above = leb→le _ _ tt; narrow = leb→le _ _ tt; crest = bound-of _ _ _ (leb→le _ _ tt) (leb→le _ _ tt) };
+  converters-least = record { proper = ltb→lt _ _ tt; real = refl; below = leb→le _ _ tt; above = leb→le _ _ tt; narrow = leb→le _ _ tt; crest = bound-of _ _ _ (leb→le _ _ tt) (leb→le _ _ tt) };
+  converters-most = record { proper = ltb→lt _ _ tt; real = refl; below = leb→le _ _ tt; above = leb→le _ _ tt; narrow = leb→le _ _ tt; crest = bound-of _ _ _ (leb→le _ _ tt) (leb→le _ _ tt) };
+  near-least = near-of _ _ _ _ _ (leb→le _ _ tt) (leb→le _ _ tt);
+  near-most = near-of _ _ _ _ _ (leb→le _ _ tt) (leb→le _ _ tt);
+  near-converters = near-of _ _ _ _ _ (leb→le _ _ tt) (leb→le _ _ tt);
 }
 
 -- ---- nothing beyond them is
