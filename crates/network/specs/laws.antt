@@ -20,6 +20,7 @@ pub mod Shares
 pub mod Claim
 pub mod Sentences
 pub mod Alike
+pub mod Figures
 pub mod Verdict
 pub mod Query
 pub mod Promise
@@ -27,3 +28,4 @@ pub mod Tables
 pub mod Report
 pub mod NearPeaks
 pub mod Worked
+pub mod WorkedReport

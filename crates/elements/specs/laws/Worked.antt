@@ -8,7 +8,7 @@ use lib.Dec.{lit<, lit≤}
 use Rattle.enclosure.specs.Exact.{Point, sum, times, rootOf, rootUp}
 use Rattle.elements.specs.Factors.{factorC, sineOf, uxOf, splitOf, tOver, tUnder, numerator, denominator, peakFactor, ceiling}
 use Rattle.elements.specs.Doubles.{fineFactor}
-use Rattle.elements.specs.Peak.{PeakBound, crest, peakOver, peakUnder}
+use Rattle.elements.specs.Peak.{PeakBound, NearMachinePeak, crest, peakOver, peakUnder}
 use Rattle.elements.specs.laws.Peak.{near-bound, peak-near}
 use Rattle.elements.specs.Impedance.{transformer, split, feeder, generator}
 
@@ -85,6 +85,22 @@ alone-peaks = (
   λ b. not-le (b .no-lower) (lit< tt),
   record { no-lower = lit≤ tt; near = λ m e. let q : m ≡ 36352 = omega arith in rw q (lit≤ tt) },
   λ b. not-le (b .near 36353 refl) (lit< tt),
+)
+  where
+    not-le : {a b : ℕ} → a ≤ b → b < a → ⊥
+    not-le h l = omega arith
+
+-- the same of the nearer peaks, 0.15 % and 1 A
+abbrev Near : ℕ → Type 0
+Near n = NearMachinePeak n (peakOver P (alone .re) (alone .im)) (peakUnder Q (alone .re) (alone .im))
+
+pub alone-near : Near 35641 × (Near 35640 → ⊥) × Near 35694 × (Near 35695 → ⊥)
+unfolding feeder split factorC splitOf rootOf crest peakOver peakUnder tOver tUnder numerator denominator
+alone-near = (
+  record { no-lower = lit≤ tt; near = λ m e. let q : m ≡ 35640 = omega arith in rw q (lit≤ tt) },
+  λ b. not-le (b .no-lower) (lit< tt),
+  record { no-lower = lit≤ tt; near = λ m e. let q : m ≡ 35693 = omega arith in rw q (lit≤ tt) },
+  λ b. not-le (b .near 35694 refl) (lit< tt),
 )
   where
     not-le : {a b : ℕ} → a ≤ b → b < a → ⊥
