@@ -47,14 +47,14 @@ machine = record { kind = 2; bus = 1; f1 = 10000; f2 = 10000; f3 = 20000; f4 = 0
 abbrev solar : Source
 solar = record { kind = 4; bus = 1; f1 = 1000; f2 = 200; f3 = 0; f4 = 0; f5 = 0; low = 0; high = 0; «transformer_kva» = 0; uk = 0; ur = 0 }
 
-abbrev two : Network
+abbrev pub two : Network
 two = closedAs true (openOf 10 (first ∷ second ∷ []) (infeed ∷ machine ∷ solar ∷ []))
 
-abbrev twoCalls : List Call
+abbrev pub twoCalls : List Call
 twoCalls = starting 10 ∷ addingBus first ∷ addingBus second ∷ addingSource infeed ∷ addingSource machine ∷ addingSource solar ∷ closing ∷ []
 
 -- the calls that make it are accepted
-two-made : run twoCalls ≡ two
+pub two-made : run twoCalls ≡ two
 unfolding run afterBusIn busNumberIn busRecordNumber branchOk depthOk along afterSourceIn sourceNumberIn sourceRecordNumber rangesOk fieldsOk afterClose closeNumber
 two-made = refl
 
