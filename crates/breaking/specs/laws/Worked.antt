@@ -1,6 +1,6 @@
 -- Order 3 of document 02 at bus 0 of document 01's worked network of two buses, for a breaker that opens after 100 ms and a lent table of
 -- seven numbers. Every number here follows from the promise alone, and no narrower one does. Assumes nothing.
-use Prim.Native.Nat.{ℕ, zero, suc, _+_, _*_, _^_, _≤_, _<_}
+use Prim.Native.Nat.{ℕ, zero, suc, _*_, _-_, _^_, _≤_, _<_}
 use mathlib.Core.Path.{_≡_, refl, sym, _∙_, ap}
 use mathlib.Core.List.{List, [], _∷_}
 use native.Mathlib.Omega.{arith}
@@ -19,7 +19,6 @@ use Rattle.tree.specs.Grid.{joined, neighbour, through, seen, across, carriedWi
 use Rattle.tree.specs.Shares.{onward, shareSquare, terminalSquare}
 use Rattle.network.specs.SourceKinds.{impedanceOf}
 use Rattle.network.specs.Grid.{branchOf, aboveOf, belowOf}
-use Rattle.network.specs.Grounds.{run}
 use Rattle.network.specs.Tables.{tableAfter}
 use Rattle.network.specs.laws.Worked.{two, twoCalls, two-made}
 use Rattle.breaking.specs.Breaking.{breakingNumber, figureAfter, shareSquareAt, qSquareAt, convertersPart}
@@ -105,3 +104,108 @@ figure-most m d C e c z h =
     (λ (q : 7880 ≤ d).
     contrary
     (from (m ∷ d ∷ t ∷ u ∷ []) (h ⊹ 100000000000000 * u ⋆ q ⊹ 103000000000000 ⋆ le-of-eq c ⊹ 198233800000000 * u ⋆ le-of-eq e ⊹ z) (search read depth 40 fits 20000) refl))
+
+-- the shares in tenths of an ampere: these are below and above them
+feeder-near : (t u : ℕ) → 3 * t ≡ 100000000 * u → (57735 * 57735 * u ≤ t * 100) × (t * 100 ≤ 57736 * 57736 * u)
+feeder-near t u e = (omega arith, omega arith)
+
+generator-near : (t u : ℕ) → 27 * t ≡ 100000000 * u → (19245 * 19245 * u ≤ t * 100) × (t * 100 ≤ 19246 * 19246 * u)
+generator-near t u e = (omega arith, omega arith)
+
+low-fits : (j : ℕ) → j < 3 → (0 < low j .under) × Most (product (low j) (low j)) (shareSquareAt two 0 j)
+low-fits zero l = (lit< tt, feeder-near _ _ feeder-share .0)
+low-fits (suc zero) l = (lit< tt, generator-near _ _ generator-share .0)
+low-fits (suc (suc zero)) l = (lit< tt, le-refl 0)
+low-fits (suc (suc (suc k))) l = absurd (not-suc-le-zero (le-of-suc-le-suc (le-of-suc-le-suc (le-of-suc-le-suc l))))
+
+high-fits : (j : ℕ) → j < 3 → (0 < high j .under) × Most (shareSquareAt two 0 j) (product (high j) (high j))
+high-fits zero l = (lit< tt, feeder-near _ _ feeder-share .1)
+high-fits (suc zero) l = (lit< tt, generator-near _ _ generator-share .1)
+high-fits (suc (suc zero)) l = (lit< tt, le-refl 0)
+high-fits (suc (suc (suc k))) l = absurd (not-suc-le-zero (le-of-suc-le-suc (le-of-suc-le-suc (le-of-suc-le-suc l))))
+
+-- ---- the number behind so many
+at-drop : (i : ℕ) (l : List Float) → getD (drop i l) 0 nan ≡ getD l i nan
+at-drop zero l = refl
+at-drop (suc i) [] = refl
+at-drop (suc i) (x ∷ l) = at-drop i l
+
+-- ORDER 3 AT BUS 0 OF TWO BUSES, as one table: a lent table of seven numbers, the table given back, and the figure
+pub record Worked (lent table : List Float) (figure : Float) : Type 0 where
+  pub lower : ℕ
+  pub upper : ℕ
+  pub amperes : ℕ
+  -- "two numbers a source in source order": the generator is the second source
+  pub numbers : (getD table 2 nan ≡ ofNat lower) × (getD table 3 nan ≡ ofNat upper) × (lower < 2 ^ 53) × (upper < 2 ^ 53)
+  -- "the magnitude of its own part of the fault current": 10,000/√27 A, or 1,924.5 A
+  pub share : 27 * shareSquareAt two 0 1 .top ≡ 100000000 * shareSquareAt two 0 1 .under
+  -- "For each generator give whole bounds on its share": the lower is not above it, nor the upper below it
+  pub bounds : (lower ≤ 1924) × (1925 ≤ upper)
+  -- "at most 2 A plus a thousandth of the upper apart"
+  pub widest : (1922 ≤ lower) × (upper ≤ 1927)
+  -- "0, 0 for other kinds": the feeder is the first source, the converter the third
+  pub others : (getD table 0 nan ≡ ofNat 0) × (getD table 1 nan ≡ ofNat 0) × (getD table 4 nan ≡ ofNat 0) × (getD table 5 nan ≡ ofNat 0)
+  -- "numbers beyond the last source's are kept"
+  pub beyond : (length table ≡ 7) × (getD table 6 nan ≡ getD lent 6 nan)
+  -- "q the share over the generator's rated current": 10/3, which is above 2, and "q in tenths rounded down" 33
+  pub q : (33 * 33 * qSquareAt two 0 1 .under ≤ 100 * qSquareAt two 0 1 .top) × (100 * qSquareAt two 0 1 .top < 34 * 34 * qSquareAt two 0 1 .under)
+  -- "in thousandths rounded up": 0.62 + 0.72·e^(−0.32·3.3)
+  pub mu : muAt 100 (qSquareAt two 0 1) ≡ 871
+  -- the sum is 10,000/√3 + 0.871·10,000/√27 + 200 A, or 7,649.743 A: "The breaking figure is never below that sum with exact shares and the
+  -- stated table"
+  pub figure-whole : (figure ≡ ofNat amperes) × (amperes < 2 ^ 53)
+  pub enough : 7650 ≤ amperes
+  -- "nor above it by more than 3 % plus 4 A": 7,883.235 A
+  pub near : amperes ≤ 7883
+
+-- ---- by the promise
+module _ {lent table : List Float} {figure : Float} (h : BreakingHolds two 0 100 lent table figure) (room : length lent ≡ 7) where
+  lower-most : h .lower 1 < 1925
+  lower-most = share-most _ _ (h .lower 1) generator-share (h .proper 1 (lit< tt)) (h .shares 1 (lit< tt) refl .below)
+
+  upper-least : 1924 < h .upper 1
+  upper-least = share-least _ _ (h .upper 1) generator-share (h .some 1 (lit< tt) refl) (h .shares 1 (lit< tt) refl .above)
+
+  wide : (1922 ≤ h .lower 1) × (h .upper 1 ≤ 1927)
+  wide = let n = h .shares 1 (lit< tt) refl .narrow in (omega (arith, upper-least, n), omega (arith, lower-most, n))
+
+  -- both numbers of a source that has none
+  nought : (j : ℕ) (x y : Float) → (x ≡ ofNat (h .lower j)) × (y ≡ ofNat (h .upper j)) × (h .lower j < 2 ^ 53) × (h .upper j < 2 ^ 53) → (h .lower j ≡ 0) × (h .upper j ≡ 0) → (x ≡ ofNat 0) × (y ≡ ofNat 0)
+  nought j x y k o = (k .0 ∙ ap ofNat (o .0), k .1 ∙ ap ofNat (o .1))
+
+  figure-above : 7649 < h .amperes
+  figure-above = figure-least _ (h .amperes) _ generator-mu converters (h .proper-converters) (h .enough low low-fits)
+
+  figure-below : h .amperes - 4 < 7880
+  figure-below = figure-most _ (h .amperes - 4) _ generator-mu converters (h .proper-converters) (h .near high high-fits)
+
+  held : Worked lent table figure
+  held =
+      let first = nought 0 _ _ (h .numbers 0 (lit< tt)) (h .others 0 (lit< tt) refl) in
+      let third = nought 2 _ _ (h .numbers 2 (lit< tt)) (h .others 2 (lit< tt) refl) in
+      record {
+        lower = h .lower 1;
+        upper = h .upper 1;
+        amperes = h .amperes;
+        numbers = h .numbers 1 (lit< tt);
+        share = generator-share;
+        bounds = (omega (arith, lower-most), omega (arith, upper-least));
+        widest = wide;
+        others = (first .0, first .1, third .0, third .1);
+        beyond = (h .beyond .0 ∙ room, sym (at-drop 6 table) ∙ ap (λ (l : List Float). getD l 0 nan) (h .beyond .1) ∙ at-drop 6 lent);
+        q = tenths-of-q _ _ generator-q (h .proper-q 1 (lit< tt) refl);
+        mu = generator-mu;
+        figure-whole = h .figure-whole;
+        enough = omega (arith, figure-above);
+        near = omega (arith, figure-below);
+      }
+
+-- whatever keeps the promise
+pub promised : (lent table : List Float) (figure : Float) → length lent ≡ 7 → BreakingPromise two 0 100 lent table figure → Worked lent table figure
+promised lent table figure room p = held (p twoCalls (sym two-made) (accepted (length lent) room)) room
+
+-- and so what the call gives
+pub worked : (lent : List Float) → length lent ≡ 7
+    → Worked lent (tableAfter (breakingNumber two 0 100 (length lent)) (tableOf (partAt two 0 100) (two .sources)) lent)
+    (figureAfter (breakingNumber two 0 100 (length lent)) (figureAt two 0 100))
+worked lent room = promised lent _ _ room (breaking-kept two 0 100 lent)
