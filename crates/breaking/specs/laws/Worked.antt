@@ -166,9 +166,6 @@ module _ {lent table : List Float} {figure : Float} (h : BreakingHolds two 0 100
   upper-least : 1924 < h .upper 1
   upper-least = share-least _ _ (h .upper 1) generator-share (h .some 1 (lit< tt) refl) (h .shares 1 (lit< tt) refl .above)
 
-  wide : (1922 ≤ h .lower 1) × (h .upper 1 ≤ 1927)
-  wide = let n = h .shares 1 (lit< tt) refl .narrow in (omega (arith, upper-least, n), omega (arith, lower-most, n))
-
   -- both numbers of a source that has none
   nought : (j : ℕ) (x y : Float) → (x ≡ ofNat (h .lower j)) × (y ≡ ofNat (h .upper j)) × (h .lower j < 2 ^ 53) × (h .upper j < 2 ^ 53) → (h .lower j ≡ 0) × (h .upper j ≡ 0) → (x ≡ ofNat 0) × (y ≡ ofNat 0)
   nought j x y k o = (k .0 ∙ ap ofNat (o .0), k .1 ∙ ap ofNat (o .1))
@@ -181,6 +178,7 @@ module _ {lent table : List Float} {figure : Float} (h : BreakingHolds two 0 100
 
   held : Worked lent table figure
   held =
+      let narrow = h .shares 1 (lit< tt) refl .narrow in
       let first = nought 0 _ _ (h .numbers 0 (lit< tt)) (h .others 0 (lit< tt) refl) in
       let third = nought 2 _ _ (h .numbers 2 (lit< tt)) (h .others 2 (lit< tt) refl) in
       record {
@@ -190,7 +188,7 @@ module _ {lent table : List Float} {figure : Float} (h : BreakingHolds two 0 100
         numbers = h .numbers 1 (lit< tt);
         share = generator-share;
         bounds = (omega (arith, lower-most), omega (arith, upper-least));
-        widest = wide;
+        widest = (omega (arith, upper-least, narrow), omega (arith, lower-most, narrow));
         others = (first .0, first .1, third .0, third .1);
         beyond = (h .beyond .0 ∙ room, sym (at-drop 6 table) ∙ ap (λ (l : List Float). getD l 0 nan) (h .beyond .1) ∙ at-drop 6 lent);
         q = tenths-of-q _ _ generator-q (h .proper-q 1 (lit< tt) refl);
