@@ -1,5 +1,6 @@
 -- Order 3 of document 02 at bus 0 of document 01's worked network of two buses, for a breaker that opens after 100 ms and a lent table of
--- seven numbers. Every number here follows from the promise alone, and no narrower one does. Assumes nothing.
+-- seven numbers. Every bound here follows from the promise alone, and the promise gives no narrower one: whoever loosens it breaks this file.
+-- Assumes nothing.
 use Prim.Native.Nat.{ℕ, zero, suc, _*_, _-_, _^_, _≤_, _<_}
 use mathlib.Core.Path.{_≡_, refl, sym, _∙_, ap}
 use mathlib.Core.List.{List, [], _∷_}
@@ -55,13 +56,13 @@ converters = eqb→eq (convertersPart two 0 .top) (200 * convertersPart two 0 .u
 contrary : {P : Type 0} → 1 ≤ 0 → P
 contrary h = absurd (le→leb 1 0 h)
 
--- by a fraction that is one, for `below`
+-- by `below`, if u is above 0
 share-most : (t u l : ℕ) → 27 * t ≡ 100000000 * u → 0 < u → l * l * u ≤ t * 1 → l < 1925
 share-most t u l e z h =
     below-of-squares l 1925
     (lt-of-not-le (λ (q : 1925 * 1925 ≤ l * l). contrary (from (t ∷ u ∷ l ∷ []) (27 ⋆ h ⊹ le-of-eq e ⊹ 27 * u ⋆ q ⊹ z) (search read depth 40 fits 20000) refl)))
 
--- by a share that is some, for `above`
+-- by `above`, if t is above 0
 share-least : (t u k : ℕ) → 27 * t ≡ 100000000 * u → 0 < t → t * 1 ≤ k * k * u → 1924 < k
 share-least t u k e z h =
     below-of-squares 1924 k
@@ -74,7 +75,7 @@ share-least t u k e z h =
 tenths-of-q : (t u : ℕ) → 9 * t ≡ 100 * u → 0 < u → (33 * 33 * u ≤ 100 * t) × (100 * t < 34 * 34 * u)
 tenths-of-q t u e z = (omega arith, omega arith)
 
--- ---- over plain numbers: the sum of the feeder's and the generator's magnitudes in tenths of an ampere, the second m thousandths of it, and C
+-- ---- over plain numbers: the sum of the feeder's magnitude, m thousandths of the generator's, both in tenths of an ampere, and C
 abbrev tenths : List ℕ → ℕ → Fraction
 tenths l j = record { top = getD l j 0; under = 10 }
 
@@ -147,6 +148,8 @@ pub record Worked (lent table : List Float) (figure : Float) : Type 0 where
   pub others : (getD table 0 nan ≡ ofNat 0) × (getD table 1 nan ≡ ofNat 0) × (getD table 4 nan ≡ ofNat 0) × (getD table 5 nan ≡ ofNat 0)
   -- "numbers beyond the last source's are kept"
   pub beyond : (length table ≡ 7) × (getD table 6 nan ≡ getD lent 6 nan)
+  -- "with exact shares": they are fractions, the feeder's is above 0, and no comparison holds because there is nothing to compare
+  pub fractions : (0 < shareSquareAt two 0 0 .under) × (0 < shareSquareAt two 0 0 .top) × (0 < shareSquareAt two 0 2 .under) × (0 < convertersPart two 0 .under)
   -- "q the share over the generator's rated current": 10/3, which is above 2, and "q in tenths rounded down" 33
   pub q : (33 * 33 * qSquareAt two 0 1 .under ≤ 100 * qSquareAt two 0 1 .top) × (100 * qSquareAt two 0 1 .top < 34 * 34 * qSquareAt two 0 1 .under)
   -- "in thousandths rounded up": 0.62 + 0.72·e^(−0.32·3.3)
@@ -191,6 +194,7 @@ module _ {lent table : List Float} {figure : Float} (h : BreakingHolds two 0 100
         widest = (omega (arith, upper-least, narrow), omega (arith, lower-most, narrow));
         others = (first .0, first .1, third .0, third .1);
         beyond = (h .beyond .0 ∙ room, sym (at-drop 6 table) ∙ ap (λ (l : List Float). getD l 0 nan) (h .beyond .1) ∙ at-drop 6 lent);
+        fractions = (h .proper 0 (lit< tt), h .some 0 (lit< tt) refl, h .proper 2 (lit< tt), h .proper-converters);
         q = tenths-of-q _ _ generator-q (h .proper-q 1 (lit< tt) refl);
         mu = generator-mu;
         figure-whole = h .figure-whole;
