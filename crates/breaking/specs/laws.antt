@@ -5,3 +5,4 @@ pub mod Amperes
 pub mod Laid
 pub mod Sources
 pub mod Promise
+pub mod Worked
