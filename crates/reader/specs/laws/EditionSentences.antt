@@ -1,22 +1,23 @@
 -- Order 2's sentences on two editions and one file, as theorems about texts alone; and three small texts, read by computing.
 -- Assumes nothing.
-use Prim.Native.Nat.{ℕ, _≤_, _<_}
-use mathlib.Core.Path.{_≡_, refl, ap, _∙_}
-use mathlib.Core.Bool.{Bool, true, false, cond}
-use mathlib.Core.Logic.{_⊎_, inl, inr}
-use mathlib.Core.List.{List, [], _∷_, _++_}
+use Prim.Native.Nat.{ℕ, zero, suc, _+_, _≤_, _<_}
+use mathlib.Core.Path.{_≡_, refl, sym}
+use mathlib.Core.Bool.{Bool, true, false, cond, _||_}
+use mathlib.Core.Logic.{_⊎_, inl, inr, ⊎-elim}
+use mathlib.Core.List.{List, [], _∷_, _++_, append-assoc}
 use native.Mathlib.Omega.{arith}
-use lib.Dec.{eqb, lit<}
-use lib.ListN.{length}
-use borrow.Author.Tests.{eqb-true, eqb-false}
+use lib.Dec.{ltb, eqb, lit<}
+use lib.ListN.{length, take, length-append}
+use lib.Seq.{take-append-seam}
+use borrow.Author.Tests.{ltb-true, ltb-false, eqb-true, eqb-false}
 use Rattle.network.specs.Records.{branchOk}
 use Rattle.network.specs.SourceKinds.{rangesOk, fieldsOk}
 use Rattle.network.specs.Network.{Limits, here, along}
-use Rattle.network.specs.Grounds.{depthOk, busRecordNumber, busNumberIn, afterBusIn, sourceRecordNumber, sourceNumberIn, afterSourceIn, closeNumber, afterClose, emptyNetwork}
-use Rattle.network.specs.laws.Tests.{by-test}
-use Rattle.reader.specs.File.{rows, lengthOk, valueOf, numberOf, recordOf, fieldsRow, rowOf, Outcome, refusedAt, closeAfter, readFromIn, readIn, readOf}
-use Rattle.reader.specs.Editions.{firstEdition, tooManyBuses, tooMany, surplusAfter, fullAfter, firstSurplus, metAt, OldEdition}
-use Rattle.reader.specs.laws.Editions.{Raised, old-edition}
+use Rattle.network.specs.Grounds.{depthOk, busRecordNumber, busNumberIn, afterBusIn, sourceRecordNumber, sourceNumberIn, afterSourceIn, closeNumber, afterClose}
+use Rattle.network.specs.laws.Tests.{by-test, never, one-true}
+use Rattle.reader.specs.File.{letterB, letterP, rows, lengthOk, valueOf, numberOf, recordOf, fieldsRow, rowOf, refusedAt, closeAfter, readFromIn, readIn, readOf}
+use Rattle.reader.specs.Editions.{firstEdition, lettered, tooManyBuses, tooMany, surplusAfter, fullAfter, firstSurplus, OldEdition}
+use Rattle.reader.specs.laws.Editions.{old-edition}
 
 -- what the clause `edition` of `read` says of each text
 kept : (text : List ℕ) → OldEdition firstEdition text (readOf text)
@@ -55,6 +56,54 @@ no-other-refused text a h =
     by-test (eqb (firstSurplus firstEdition text) 0)
     (λ t. absurd (h (kept text .other a (eqb-true (firstSurplus firstEdition text) 0 t))))
     (λ t. let z = eqb-false (firstSurplus firstEdition text) 0 t in omega (arith, z))
+
+-- ---- "its first surplus row": the rows up to it are too many, and those before it are not
+module _ (L : Limits) where
+  surplus-first : (before rs : List (List ℕ)) → 0 < surplusAfter L before rs
+      → (tooMany L (take (surplusAfter L before rs) (before ++ rs)) ≡ true)
+      × ((j : ℕ) → length before < j → j < surplusAfter L before rs → tooMany L (take j (before ++ rs)) ≡ false)
+  surplus-first before [] h = absurd (omega arith)
+  surplus-first before (r ∷ rs) h =
+      let more = before ++ (r ∷ []) in
+      let size : length more ≡ length before + 1 = length-append before (r ∷ []) in
+      let whole : more ++ rs ≡ before ++ (r ∷ rs) = append-assoc before (r ∷ []) rs in
+      let seam : take (length before + 1) (before ++ (r ∷ rs)) ≡ more = rw (← size, ← whole) (take-append-seam more rs) in
+      by-test (tooMany L more)
+      (λ t. rw t (rw seam t, λ j a b. absurd (omega arith)))
+      (λ t.
+      let rest = surplus-first more rs (rw t at h) in
+      rw (t, ← whole) (
+        rest .0,
+        λ j a b.
+            by-test (eqb j (length before + 1))
+            (λ e. rw (eqb-true j (length before + 1) e, ← size, take-append-seam more rs) t)
+            (λ e. let z = eqb-false j (length before + 1) e in rest .1 j (omega (arith, z, size)) b),
+      ))
+
+  within : (rs : List (List ℕ)) → tooMany L rs ≡ false → (lettered letterB rs ≤ L .buses) × (lettered letterP rs ≤ L .sources)
+  within rs e = let t = none-true (ltb (L .buses) (lettered letterB rs)) (ltb (L .sources) (lettered letterP rs)) e in (ltb-false (L .buses) (lettered letterB rs) (t .0), ltb-false (L .sources) (lettered letterP rs) (t .1))
+    where
+      none-true : (a b : Bool) → (a || b) ≡ false → (a ≡ false) × (b ≡ false)
+      none-true true b h = never (sym h)
+      none-true false b h = (refl, h)
+
+  over : (rs : List (List ℕ)) → tooMany L rs ≡ true → (L .buses < lettered letterB rs) ⊎ (L .sources < lettered letterP rs)
+  over rs e = ⊎-elim (λ t. inl (ltb-true (L .buses) (lettered letterB rs) t)) (λ t. inr (ltb-true (L .sources) (lettered letterP rs) t)) (one-true (ltb (L .buses) (lettered letterB rs)) (ltb (L .sources) (lettered letterP rs)) e)
+
+-- up to this row more than 64 rows begin with B (66), or more than 256 with P (80); up to a row before it neither
+pub first-surplus-row : (text : List ℕ) → 0 < firstSurplus (record { buses = 64; sources = 256 }) text
+    → ((64 < lettered 66 (take (firstSurplus (record { buses = 64; sources = 256 }) text) (rows text))) ⊎ (256 < lettered 80 (take (firstSurplus (record { buses = 64; sources = 256 }) text) (rows text))))
+    × ((j : ℕ) → j < firstSurplus (record { buses = 64; sources = 256 }) text → (lettered 66 (take j (rows text)) ≤ 64) × (lettered 80 (take j (rows text)) ≤ 256))
+first-surplus-row text h =
+    (over firstEdition (take (firstSurplus firstEdition text) (rows text)) (first .0), before)
+  where
+    first : (tooMany firstEdition (take (firstSurplus firstEdition text) (rows text)) ≡ true)
+        × ((j : ℕ) → 0 < j → j < firstSurplus firstEdition text → tooMany firstEdition (take j (rows text)) ≡ false)
+    first = surplus-first firstEdition [] (rows text) h
+
+    before : (j : ℕ) → j < firstSurplus firstEdition text → (lettered 66 (take j (rows text)) ≤ 64) × (lettered 80 (take j (rows text)) ≤ 256)
+    before zero b = (omega arith, omega arith)
+    before (suc j) b = within firstEdition (take (suc j) (rows text)) (first .1 (suc j) (omega arith) b)
 
 -- ---- three small texts, and an edition with room for one bus and one source
 abbrev small : Limits
