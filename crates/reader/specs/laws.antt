@@ -3,3 +3,4 @@ pub mod Collected
 pub mod FileAsCalls
 pub mod RowLetters
 pub mod Editions
+pub mod EditionSentences

@@ -13,3 +13,4 @@ pub mod TextRead
 pub mod Laying
 pub mod WriteCases
 pub mod ReadBackLaw
+pub mod ReadBackSentences
