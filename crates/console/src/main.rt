@@ -27,6 +27,19 @@ use turns::failed;
 // The most bytes of a line.
 const LINE_BYTES: usize = 140_000;
 
+// The text and the table that calls are lent. Their lengths are README's, under which the effects of lines are proved.
+fn lent_text() -> [u8; hex::TEXT]
+    ensures { λ r. ⌜ length r ≡ 70000 ⌝ }
+{
+    [0u8; hex::TEXT]
+}
+
+fn lent_table() -> [f64; TABLE]
+    ensures { λ r. ⌜ length r ≡ 1100 ⌝ }
+{
+    [0.0; TABLE]
+}
+
 // The turn of a line.
 fn answer(s: Study, line: &[u8], text: &mut [u8; hex::TEXT], table: &mut [f64; TABLE]) -> Turn
     ensures { λ r. ⌜ (length (now (text .entry)) ≡ 70000 → length (now (table .entry)) ≡ 1100 → effectOf (now (text .exit), now (table .exit)) r ≡ lineEffect (network s) (now (line .entry))) ⌝ }
@@ -40,8 +53,8 @@ fn answer(s: Study, line: &[u8], text: &mut [u8; hex::TEXT], table: &mut [f64; T
 fn main() {
     let mut block = [0u8; input::BLOCK];
     let mut line = [0u8; LINE_ROOM];
-    let mut text = [0u8; hex::TEXT];
-    let mut table = [0.0; TABLE];
+    let mut text = lent_text();
+    let mut table = lent_table();
     let empty = network::calls::start(6);
     let mut study = empty.study;
     let mut cursor = Cursor { at: 0, filled: 0 };

@@ -1,19 +1,22 @@
 // The whole board (document 02, order 7): the six amperes of every bus in a lent table. All rows are read off one board, so that both sweeps
 // are made once.
 ghost use mathlib.Core.Path.{_≡_};
-ghost use Prim.Native.Nat.{_+_, _*_, _≤_};
-ghost use lib.ListN.{length};
+ghost use Prim.Native.Nat.{_+_, _*_, _≤_, _<_};
+ghost use lib.Ieee.{nan};
+ghost use lib.ListN.{length, getD};
 ghost use lib.Seq.{sets};
 ghost use Rattle.tree.specs.Limits.{maxBuses};
 ghost use Rattle.network.specs.Network.{Network, network};
 ghost use Rattle.network.specs.NearPeaks.{NearReport};
-ghost use Rattle.network.specs.Report.{reportNumber, rowNumbers, reported, ReportPromise};
+ghost use Rattle.network.specs.Report.{reportNumber, rowIn, rowNumbers, reported, ReportPromise};
 ghost use Rattle.network.specs.Tables.{laidOver, tableAfter};
 use crate::board::board_of;
 use crate::query::Amperes;
 use crate::rows::row_at;
 use crate::study::Study;
 use crate::study::bus_total;
+use enclosure::amperes::Peak;
+use enclosure::amperes::Rms;
 
 // The numbers of a row.
 pub const ROW: usize = 6;
@@ -91,4 +94,35 @@ pub fn report(s: Study, table: &mut [f64]) -> u32
     }
     lay_rows(s, table);
     number
+}
+
+// A number of the row of a bus in the table of a report, NaN past the end of the table. The first test keeps the place from being more than
+// is counted.
+fn number_or_nan(table: &[f64], b: usize, i: usize) -> f64
+    requires { ⌜ i < 6 ⌝ }
+    ensures { λ r. ⌜ r ≡ getD (now (table .entry)) (6 * b + i) nan ⌝ }
+{
+    let none = 0.0 / 0.0;
+    if table.len() <= b {
+        return none;
+    }
+    let at = ROW * b + i;
+    if table.len() <= at {
+        return none;
+    }
+    table[at]
+}
+
+// The row of a bus in the table of a report, each ampere with its unit. Past the end of the table each is NaN.
+pub fn row_of(table: &[f64], b: usize) -> Amperes
+    ensures row { λ r. ⌜ r ≡ rowIn (now (table .entry)) b ⌝ }
+{
+    Amperes {
+        lower: Rms(number_or_nan(table, b, 0)),
+        upper: Rms(number_or_nan(table, b, 1)),
+        converters_lower: Rms(number_or_nan(table, b, 2)),
+        converters_upper: Rms(number_or_nan(table, b, 3)),
+        peak: Peak(number_or_nan(table, b, 4)),
+        converters_peak: Peak(number_or_nan(table, b, 5)),
+    }
 }

@@ -6,12 +6,9 @@ ghost use mathlib.Core.List.{_++_};
 ghost use Prim.Native.Nat.{_+_, _*_, _≤_};
 ghost use lib.ListN.{length, take};
 ghost use Rattle.network.specs.Network.{maxBuses, network};
-ghost use Rattle.network.specs.Report.{rowIn};
 ghost use Rattle.reader.specs.File.{readOf};
 ghost use Rattle.printing.specs.Line.{room};
 ghost use Rattle.noldveig.specs.Rows.{busRow, refusalRow, boardText, printed};
-use enclosure::amperes::Peak;
-use enclosure::amperes::Rms;
 use libc::STDIN_FILENO;
 use libc::STDOUT_FILENO;
 use network::buses_of;
@@ -20,6 +17,7 @@ use network::query::Verdict;
 use network::query::verdict_at;
 use network::report::ROW;
 use network::report::report;
+use network::report::row_of;
 use network::study::BUSES;
 use network::study::Study;
 use network::study::bus_total;
@@ -97,22 +95,6 @@ fn lay_bus(out: &mut [u8], at: usize, bus: u32, amperes: Amperes, verdict: Verdi
     let mut line = [0u8; LINE];
     let end = put_bus(&mut line, bus, amperes, verdict);
     lay(out, at, written(&line, end))
-}
-
-// The row of a bus in the table of a report.
-fn row_of(table: &[f64], b: usize) -> Amperes
-    requires { ⌜ 6 * b + 6 ≤ length (now table) ⌝ }
-    ensures { λ r. ⌜ r ≡ rowIn (now (table .entry)) b ⌝ }
-{
-    let at = ROW * b;
-    Amperes {
-        lower: Rms(table[at]),
-        upper: Rms(table[at + 1]),
-        converters_lower: Rms(table[at + 2]),
-        converters_upper: Rms(table[at + 3]),
-        peak: Peak(table[at + 4]),
-        converters_peak: Peak(table[at + 5]),
-    }
 }
 
 // Lays the rows of all buses of a closed study, from one report.

@@ -9,6 +9,12 @@ Inv-loop block₀ line₀ text₀ table₀ study₀ cursor₀ turns₀ block lin
 abbrev μ-loop : tie.MeasureT-loop
 μ-loop block₀ line₀ text₀ table₀ study₀ cursor₀ turns₀ block line text table study cursor turns = turns
 
+lent-text-requires : tie.Need-lent-text-requires Inv-loop μ-loop
+lent-text-requires c κs = search needs
+
+lent-table-requires : tie.Need-lent-table-requires Inv-loop μ-loop
+lent-table-requires c κs = search needs
+
 start-requires : tie.Need-start-requires Inv-loop μ-loop
 start-requires c κs = search needs
 
@@ -48,6 +54,8 @@ main-spec =
     (tie.spec
     Inv-loop
     μ-loop
+    lent-text-requires
+    lent-table-requires
     start-requires
     loop-holds
     sub-turns

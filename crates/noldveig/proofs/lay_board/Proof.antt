@@ -63,7 +63,7 @@ slice-aggregate-row-of : tie.Need-slice-aggregate-row-of Inv-loop μ-loop
 slice-aggregate-row-of c = search needs
 
 row-of-requires : tie.Need-row-of-requires Inv-loop μ-loop
-row-of-requires c κs = omega (arith, c .before .before .loop .inv .0, c .before .loop-test .taken)
+row-of-requires c κs = search needs
 
 mul-verdict-at : tie.Need-mul-verdict-at Inv-loop μ-loop
 mul-verdict-at c = omega (arith, c .before .before .before .loop .inv .0, c .before .before .loop-test .taken)
