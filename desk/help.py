@@ -112,6 +112,8 @@ options
         With all that write a file: OUT is overwritten where it is there already. It keeps its permissions,
         and stays as it is until the new text is whole, so that a full disk or Ctrl-C does not cost it; only where its folder
         lets no other file take its place is it written into. IN is never changed.
+        A study is never overwritten, but for rows by rows and a plan by a plan. It is known by what
+        stands in it. A name that ends in .toml is for --toml alone, since board would read any other result as a plan.
     --help, --version
         This text; the name and the revision.
     --
