@@ -26,6 +26,8 @@ what it prints
     together, the two ratings and the verdict, all in amperes; of a plan also the bus's name. The figures come from the
     proved program target/bin/noldveig; where it is not there yet, it is proved and built first by
     `rt check noldveig`, which takes some minutes.
+    If its sources in crates have changed since, it is built anew. If rt is not there, the older program answers, and
+    standard error and a page say that it is older.
 
     A study that is refused is answered with the number of the ground, the row with a mark (^) under the place, and what
     is wrong there. Rows count from 1, fields from 1 behind the row's letter. What a row cannot show is written as a
