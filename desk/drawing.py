@@ -7,6 +7,7 @@ from desk.records import rows_of
 from desk.rewriting import with_accepted, written
 from desk.studies import rounded
 from desk.table import verdict_words
+from desk.targets import DIAGRAM
 from desk.units import WHOLE
 from desk.verdicts import is_to_heed
 
@@ -28,5 +29,5 @@ def as_diagram(source, target, force, exact):
     def make(study, got):
         buses = figures_of(study.rows, got)
         content = diagram.svg(drawn_buses(study, got, buses), title_of(source)).encode("utf-8")
-        return written(content, target, force, rounded(study))._replace(heed=is_to_heed(buses))
+        return written(content, target, force, DIAGRAM, rounded(study))._replace(heed=is_to_heed(buses))
     return with_accepted(source, target, exact, make)

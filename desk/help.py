@@ -26,6 +26,8 @@ what it prints
     together, the two ratings and the verdict, all in amperes; of a plan also the bus's name. The figures come from the
     proved program target/bin/noldveig; where it is not there yet, it is proved and built first by
     `rt check noldveig`, which takes some minutes.
+    If its sources in crates have changed since, it is built anew. If rt is not there, the older program answers, and
+    standard error and a page say that it is older.
 
     A study that is refused is answered with the number of the ground, the row with a mark (^) under the place, and what
     is wrong there. Rows count from 1, fields from 1 behind the row's letter. What a row cannot show is written as a
@@ -112,6 +114,8 @@ options
         With all that write a file: OUT is overwritten where it is there already. It keeps its permissions,
         and stays as it is until the new text is whole, so that a full disk or Ctrl-C does not cost it; only where its folder
         lets no other file take its place is it written into. IN is never changed.
+        A study is never overwritten, but for rows by rows and a plan by a plan. It is known by what
+        stands in it. A name that ends in .toml is for --toml alone, since board would read any other result as a plan.
     --help, --version
         This text; the name and the revision.
     --

@@ -1,12 +1,12 @@
-"""Runs the proved programs of target/bin, and takes the answer of noldveig apart. One that is not there yet rt builds first."""
+"""Runs the proved programs of target/bin, and takes the answer of noldveig apart. One that is not of the sources here rt builds first."""
+import functools
 import subprocess
-from pathlib import Path
 from typing import NamedTuple
 
-from desk.streams import complain
+from desk.building import ensure
+from desk.revision import ROOT
 from desk.trouble import Trouble, reason
 
-ROOT = Path(__file__).resolve().parent.parent
 PROGRAM = ROOT / "target/bin/noldveig"
 CONSOLE = ROOT / "target/bin/console"  # what desk/console.py asks
 
@@ -17,29 +17,15 @@ class Refusal(NamedTuple):
     row: int
 
 
-def build(program):
-    """Proves and builds a program. On standard error: how far it is, and all that rt says where it fails."""
-    name, said = program.name, []
-    complain(f"board: proving and building the program {name}, once; some minutes")
-    try:
-        child = subprocess.Popen(["rt", "check", name], cwd=ROOT, stdin=subprocess.DEVNULL, stdout=subprocess.PIPE,
-                                 stderr=subprocess.STDOUT, encoding="utf-8", errors="replace")
-    except OSError as error:
-        raise Trouble(f"rt, the Rattle kit's command, does not run: {reason(error)}") from None
-    with child:
-        for line in child.stdout:
-            said.append(line)
-            if line.startswith("rt: "):
-                complain(line.rstrip("\n"))
-    if child.returncode != 0 or not program.exists():
-        complain("".join(said).rstrip("\n"))
-        raise Trouble(f"`rt check {name}` did not build the program; what it said is above")
+@functools.cache
+def ensured(program):
+    """Once for each call of board."""
+    ensure(program)
 
 
 def output(program, given):
     """What a program writes for what it is given."""
-    if not program.exists():
-        build(program)
+    ensured(program)
     try:
         done = subprocess.run([str(program)], input=given, capture_output=True)
     except OSError as error:

@@ -7,6 +7,7 @@ from desk.program import Refusal, answer
 from desk.records import listed, rows_of
 from desk.streams import Answer
 from desk.studies import Study, from_plan, is_plan, mistaken, refused, rounded
+from desk.targets import PLAN, ROWS, save
 from desk.trouble import Trouble
 from desk.writer import proved_text
 
@@ -46,7 +47,7 @@ def fixed(source, target, force):
     text = source_of(source, target)
     result, changes = mended(text)
     got = answer(result)  # before anything is written: where the program cannot be run, no file is left behind
-    files.write(target, result, force)
+    save(target, result, force, ROWS)
     said = ["Changed:"] + [reported(change) for change in changes] if changes else ["Nothing was to be mended."]
     said.append(f"{target} is written, {len(result):,} bytes" + ("." if changes else f", the same as {files.name_of(source)}."))
     if isinstance(got, Refusal):
@@ -56,10 +57,10 @@ def fixed(source, target, force):
 
 # ---- rows to a plan and back: standard output has the result alone, so that it can be handed on
 
-def written(content, target, force, notes="", counts=""):
+def written(content, target, force, kind, notes="", counts=""):
     if target == "-":
         return Answer(0, content, notes)
-    files.write(target, content, force)
+    save(target, content, force, kind)
     return Answer(0, f"{target} is written, {counts}{len(content):,} bytes.", notes)
 
 
@@ -69,7 +70,7 @@ def as_plan(source, target, force):
     got = answer(study.rows)
     if isinstance(got, Refusal):
         return Answer(1, notes=refused(study, got))
-    return written(plan_of_rows(study.rows).encode("utf-8"), target, force)
+    return written(plan_of_rows(study.rows).encode("utf-8"), target, force, PLAN)
 
 
 def as_rows(source, target, force, exact):
@@ -81,7 +82,7 @@ def as_rows(source, target, force, exact):
     got = answer(study.rows)
     if isinstance(got, Refusal):
         return Answer(1, notes=refused(study, got))
-    return written(study.rows, target, force, rounded(study))
+    return written(study.rows, target, force, ROWS, rounded(study))
 
 
 # ---- rows or a plan
@@ -122,5 +123,5 @@ def in_rows(source, target, force, exact):
         notes.append(rounded(study))
         if study.names:
             notes.append(nameless(source))
-        return written(content, target, force, "\n".join(filter(None, notes)), counts)
+        return written(content, target, force, ROWS, "\n".join(filter(None, notes)), counts)
     return with_accepted(source, target, exact, make)

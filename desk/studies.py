@@ -30,11 +30,15 @@ class Study(NamedTuple):
 
 # ---- which of the two it is
 
+def in_letters(data):
+    """The text, in whatever encoding, as far as letters, digits and signs of ASCII go."""
+    found = wide(data)
+    return data[len(found.mark):].decode(found.codec, "replace") if found else data.removeprefix(MARK).decode("latin-1")
+
+
 def first_line(data):
     """The first line that is neither blank nor a remark, in whatever encoding."""
-    found = wide(data)
-    text = data[len(found.mark):].decode(found.codec, "replace") if found else data.removeprefix(MARK).decode("latin-1")
-    lines = (line.strip() for line in text.splitlines())
+    lines = (line.strip() for line in in_letters(data).splitlines())
     return next((line for line in lines if line and not line.startswith("#")), "")
 
 
