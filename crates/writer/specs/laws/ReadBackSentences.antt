@@ -47,6 +47,6 @@ pub few-closed : run few .closed ≡ true
 unfolding run afterBusIn busNumberIn busRecordNumber branchOk depthOk along afterSourceIn sourceNumberIn sourceRecordNumber rangesOk fieldsOk afterClose closeNumber
 few-closed = refl
 
--- which is read back from every buffer of 65,536 bytes
+-- and it is read back from every buffer of 65,536 bytes
 pub few-read : (buffer : List ℕ) → length buffer ≡ 65536 → readOf (take (writeLength (run few) (length buffer)) (afterWrite (run few) buffer)) ≡ acceptedAs (run few)
 few-read buffer room = reads-the-same few few-closed buffer room
