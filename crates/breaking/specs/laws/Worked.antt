@@ -8,7 +8,7 @@ use native.Mathlib.Omega.{arith}
 use native.Mathlib.Nat.{le-refl, lt-of-not-le, le-of-eq, not-suc-le-zero, le-of-suc-le-suc}
 use lib.Dec.{eqb→eq, le→leb, lit<}
 use lib.Ieee.{Float, nan}
-use lib.ListN.{length, getD, drop}
+use lib.ListN.{length, getD}
 use Rattle.algebra.specs.Reading.{from, read, _⊹_, _⋆_}
 use Rattle.enclosure.specs.Exact.{ofNat, inverse, rootOf, rootUp}
 use Rattle.enclosure.specs.Fraction.{Fraction, Most, whole, product, total}
@@ -21,6 +21,7 @@ use Rattle.tree.specs.Shares.{onward, shareSquare, terminalSquare}
 use Rattle.network.specs.SourceKinds.{impedanceOf}
 use Rattle.network.specs.Grid.{branchOf, aboveOf, belowOf}
 use Rattle.network.specs.Tables.{tableAfter}
+use Rattle.network.specs.laws.Tables.{number-beyond}
 use Rattle.network.specs.laws.Worked.{two, twoCalls, two-made}
 use Rattle.breaking.specs.Breaking.{breakingNumber, figureAfter, shareSquareAt, qSquareAt, convertersPart}
 use Rattle.breaking.specs.Doubles.{partAt, tableOf, figureAt}
@@ -125,12 +126,6 @@ high-fits (suc zero) l = (lit< tt, generator-near _ _ generator-share .1)
 high-fits (suc (suc zero)) l = (lit< tt, le-refl 0)
 high-fits (suc (suc (suc k))) l = absurd (not-suc-le-zero (le-of-suc-le-suc (le-of-suc-le-suc (le-of-suc-le-suc l))))
 
--- ---- the number behind so many
-at-drop : (i : ℕ) (l : List Float) → getD (drop i l) 0 nan ≡ getD l i nan
-at-drop zero l = refl
-at-drop (suc i) [] = refl
-at-drop (suc i) (x ∷ l) = at-drop i l
-
 -- ORDER 3 AT BUS 0 OF TWO BUSES, as one table: a lent table of seven numbers, the table given back, and the figure
 pub record Worked (lent table : List Float) (figure : Float) : Type 0 where
   pub lower : ℕ
@@ -193,7 +188,7 @@ module _ {lent table : List Float} {figure : Float} (h : BreakingHolds two 0 100
         bounds = (omega (arith, lower-most), omega (arith, upper-least));
         widest = (omega (arith, upper-least, narrow), omega (arith, lower-most, narrow));
         others = (first .0, first .1, third .0, third .1);
-        beyond = (h .beyond .0 ∙ room, sym (at-drop 6 table) ∙ ap (λ (l : List Float). getD l 0 nan) (h .beyond .1) ∙ at-drop 6 lent);
+        beyond = (h .beyond .0 ∙ room, number-beyond 6 table lent (h .beyond .1));
         fractions = (h .proper 0 (lit< tt), h .some 0 (lit< tt) refl, h .proper 2 (lit< tt), h .proper-converters);
         q = tenths-of-q _ _ generator-q (h .proper-q 1 (lit< tt) refl);
         mu = generator-mu;

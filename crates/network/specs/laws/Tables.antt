@@ -1,6 +1,6 @@
 -- What stands where in a table over which numbers are laid. Assumes nothing.
-use Prim.Native.Nat.{ℕ, _+_, _≤_, _<_}
-use mathlib.Core.Path.{_≡_, refl, _∙_}
+use Prim.Native.Nat.{ℕ, zero, suc, _+_, _≤_, _<_}
+use mathlib.Core.Path.{_≡_, refl, sym, _∙_, ap}
 use mathlib.Core.List.{List, [], _∷_, _++_}
 use native.Mathlib.Omega.{arith}
 use lib.Ieee.{Float, nan}
@@ -29,3 +29,12 @@ module _ (numbers lent : List Float) (room : length numbers ≤ length lent) whe
 -- beyond so many numbers
 pub laid-beyond : (numbers lent : List Float) (k : ℕ) → k ≡ length numbers → drop k (laidOver numbers lent) ≡ drop k lent
 laid-beyond numbers lent k e = rw e (drop-first numbers (drop (length numbers) lent))
+
+first-of-drop : (k : ℕ) (l : List Float) → getD (drop k l) 0 nan ≡ getD l k nan
+first-of-drop zero l = refl
+first-of-drop (suc k) [] = refl
+first-of-drop (suc k) (x ∷ l) = first-of-drop k l
+
+-- the first number beyond
+pub number-beyond : (k : ℕ) (l m : List Float) → drop k l ≡ drop k m → getD l k nan ≡ getD m k nan
+number-beyond k l m e = sym (first-of-drop k l) ∙ ap (λ (d : List Float). getD d 0 nan) e ∙ first-of-drop k m

@@ -1,12 +1,12 @@
 -- What the promises of a query and of a report say of document 01's worked network, to the ampere. Both ends of each range keep them, and
 -- nothing beyond does. Each hypothesis of a promise is met here, so that none is one that never holds. Assumes nothing.
-use Prim.Native.Nat.{ℕ, zero, suc, _*_, _-_, _≤_, _<_}
-use mathlib.Core.Path.{_≡_, refl, sym, _∙_, ap}
-use mathlib.Core.List.{List, [], _∷_}
+use Prim.Native.Nat.{ℕ, _*_, _-_, _≤_, _<_}
+use mathlib.Core.Path.{_≡_, refl, sym, _∙_}
+use mathlib.Core.List.{List}
 use native.Mathlib.Omega.{arith}
 use lib.Dec.{leb→le, ltb→lt, lit<}
 use lib.Ieee.{Float, nan}
-use lib.ListN.{length, getD, drop}
+use lib.ListN.{length, getD}
 use Rattle.enclosure.specs.Exact.{inverse, rootOf, rootUp}
 use Rattle.elements.specs.Factors.{tOver, tUnder, numerator, denominator, factorC, sineOf, splitOf}
 use Rattle.elements.specs.Peak.{PeakBound, NearPeak, peakOver, peakUnder, crest}
@@ -20,6 +20,7 @@ use Rattle.network.specs.Promise.{machinesOf, Promise}
 use Rattle.network.specs.NearPeaks.{MachinePeak, ConverterPeak, NearPromise, NearReport}
 use Rattle.network.specs.Report.{reportNumber, rowIn, reportedAt, ReportHolds, ReportPromise}
 use Rattle.network.specs.laws.Figures.{figures-one}
+use Rattle.network.specs.laws.Tables.{number-beyond}
 use Rattle.network.specs.laws.Worked.{two, twoCalls, two-made, bare, bareCalls, bare-made, told, below-next, above-last, peak-above, near-few, lower-most, upper-least, peak-least, peak-most, converters-lower, converters-upper, converters-peak-least, converters-peak-most}
 
 -- WHAT DEMAND 3 LEAVES OPEN at bus 0, to the ampere
@@ -137,11 +138,6 @@ pub record Rows (lent table : List Float) : Type 0 where
   -- "Numbers beyond the last bus's row are kept.": the 13th
   pub beyond : (length table ≡ 13) × (getD table 12 nan ≡ getD lent 12 nan)
 
-number-beyond : (k : ℕ) (l : List Float) → getD (drop k l) 0 nan ≡ getD l k nan
-number-beyond zero l = refl
-number-beyond (suc k) [] = refl
-number-beyond (suc k) (x ∷ l) = number-beyond k l
-
 module _ (lent table : List Float) (thirteen : length lent ≡ 13) where
   accepted : reportNumber two (length lent) ≡ 0
   unfolding reportNumber
@@ -156,7 +152,7 @@ module _ (lent table : List Float) (thirteen : length lent ≡ 13) where
         let d = holds .rows 1 (lit< tt) in
         rw (figures-one (rowIn table 1) g (d .figures) w (d .whole)) (second-ranges (d .figures) (d .machines));
     same = λ b l. rw bare-made at (holds .same b l bareCalls (rw bare-made refl) (rw bare-made (record { tolerance = refl; buses = refl; others = refl })));
-    beyond = (holds .beyond .0 ∙ thirteen, sym (number-beyond 12 table) ∙ ap (λ (l : List Float). getD l 0 nan) (holds .beyond .1) ∙ number-beyond 12 lent);
+    beyond = (holds .beyond .0 ∙ thirteen, number-beyond 12 table lent (holds .beyond .1));
   }
     where
       holds : ReportHolds two lent table

@@ -14,7 +14,7 @@ use Rattle.network.specs.Grounds.{depthOk, busRecordNumber, busNumberIn, afterB
 use Rattle.reader.specs.File.{acceptedAs, busOf, sourceOf, readOf}
 use Rattle.writer.specs.Text.{textOf}
 use Rattle.writer.specs.Writing.{writeNumber, writeLength, afterWrite}
-use Rattle.writer.specs.ReadBack.{ReadBack, ReadBackPromise}
+use Rattle.writer.specs.ReadBack.{ReadBackPromise}
 use Rattle.writer.specs.laws.ReadBackLaw.{promised}
 use Rattle.writer.specs.laws.WriteCases.{write-accepted}
 
