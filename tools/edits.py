@@ -1,7 +1,8 @@
 """The must-fail edits: wrong programs and false laws, each of which the prover must refuse because a proof no longer goes through. Here
 they are read and applied; tools/trying.py tries them, tools/logs.py reads what the prover says.
 
-Those that change the body of one function and nothing else can be tried together, each of another function: tools/trying.py says why."""
+Those that change the body of one function, or its clauses, and nothing else can be tried together, each of another function:
+tools/trying.py says why."""
 import re
 from pathlib import Path
 from typing import NamedTuple
@@ -94,18 +95,19 @@ def changes_specs(edit):
 
 
 def without_functions(text):
-    """What a source file declares besides functions."""
-    return BRINGS.sub("", FUNCTION.sub("", text))
+    """What a source file declares besides functions; a program keeps a `main` that does nothing."""
+    return BRINGS.sub("", FUNCTION.sub(lambda found: "fn main() {\n}" if found["name"] == "main" else "", text))
 
 
-# ---- edits of one body
+# ---- edits of one function
 
 class Change(NamedTuple):
-    """What an edit makes of the body of one function, where it changes nothing else."""
+    """What an edit makes of the body of one function, or of its clauses, where it changes nothing else."""
 
     edit: Path
     file: str
     name: str
+    head: str
     body: str
 
     @property
@@ -115,14 +117,14 @@ class Change(NamedTuple):
         return "::".join([*modules, self.name])
 
 
-def bodies_of(text):
-    """The functions of a source file and their bodies."""
-    return {found["name"]: found["body"] for found in FUNCTION.finditer(text)}
+def functions_of(text):
+    """The functions of a source file: the head and the body of each."""
+    return {found["name"]: (found["head"], found["body"]) for found in FUNCTION.finditer(text)}
 
 
-def with_bodies(text, bodies):
-    """A source file with other bodies of these functions."""
-    return FUNCTION.sub(lambda found: found["head"] + bodies.get(found["name"], found["body"]) + "}", text)
+def with_functions(text, made):
+    """A source file with other heads and bodies of these functions."""
+    return FUNCTION.sub(lambda found: "".join(made.get(found["name"], (found["head"], found["body"]))) + "}", text)
 
 
 def asks_code(folder):
@@ -138,8 +140,21 @@ def stays_within(old, new):
     return not ITEM.search(old + new) and set(CALL.findall(new)) <= set(CALL.findall(old))
 
 
+def other_clauses(old, new):
+    """Whether two heads differ in what clauses ensure, a line each, and in nothing else."""
+    pairs = list(zip(old.split("\n"), new.split("\n")))
+    return (old.count("\n") == new.count("\n")
+            and all(line == other or line.startswith("    ensures ") and other.startswith("    ensures ") for line, other in pairs))
+
+
+def is_called(folder, name):
+    """Whether a function of the crate calls one of this name."""
+    return any(name in CALL.findall(body) for path in folder.glob("src/**/*.rt") for _, body in functions_of(read(path)).values())
+
+
 def change_of(edit, folder):
-    """What the edit makes of one body, or None where it changes anything else, calls something else, or does not apply."""
+    """What the edit makes of one body, or of the clauses of one function that no other of its crate calls. None where it changes anything
+    else, calls something else, or does not apply."""
     try:
         texts = {} if misplaced(edit) or asks_code(folder) else edited(edit, folder)
     except (ValueError, OSError):
@@ -148,19 +163,22 @@ def change_of(edit, folder):
     if len(texts) != 1 or not re.fullmatch(r"src/.*\.rt", file):
         return None
     old, new = read(folder / file), texts[file]
-    before, after = bodies_of(old), bodies_of(new)
+    before, after = functions_of(old), functions_of(new)
     names = [name for name in before if before[name] != after.get(name, before[name])]
-    if len(names) != 1 or with_bodies(old, {names[0]: after[names[0]]}) != new or not stays_within(before[names[0]], after[names[0]]):
+    if len(names) != 1 or with_functions(old, {names[0]: after[names[0]]}) != new:
         return None
-    return Change(edit, file, names[0], after[names[0]])
+    (head, body), (new_head, new_body) = before[names[0]], after[names[0]]
+    of_body = head == new_head and stays_within(body, new_body)
+    of_clauses = body == new_body and other_clauses(head, new_head) and not is_called(folder, names[0])
+    return Change(edit, file, names[0], new_head, new_body) if of_body or of_clauses else None
 
 
 def together(changes, folder):
     """The files that several changes make, each of another function."""
-    bodies = {}
+    made = {}
     for change in changes:
-        bodies.setdefault(change.file, {})[change.name] = change.body
-    return {file: with_bodies(read(folder / file), made) for file, made in bodies.items()}
+        made.setdefault(change.file, {})[change.name] = (change.head, change.body)
+    return {file: with_functions(read(folder / file), functions) for file, functions in made.items()}
 
 
 def groups_of(changes):

@@ -6,15 +6,16 @@ by `rt dev`, which takes what an edit leaves as it was from the crate's incremen
 so it is the edit that is refused. Before each the folder is as the first of these proofs left it.
 
 Edits of several functions' bodies are tried together, by one run. Each can break the proof of its own function alone: callers and laws
-know a function by its contract, which stays as it is, and a function's code is private to its own proof. Of a caller's proof only the
+know a function by its contract, which stays as it is, and a function's code is private to its own proof. So can edits of the clauses of
+functions that nothing in their crate calls: no other proof knows those clauses. Of a caller's proof only the
 last step takes the theorem of what it calls, and what the prover says of that step where there is no such theorem ("was not admitted",
 "it calls .., which is not proved") never counts. So an edit counts as refused by such a run where its function is not proved and the
 first error in that function's own proof is that of a fact, as in a run for it alone; and only where nothing is at fault that was not
 changed. Every other edit is tried alone, and what that says counts. So a group can save time, and lets no edit pass that would not be
 refused alone.
 
-An edit of specs/ is tried first on the library without its functions: its types, constants, definitions and laws. No definition and no law
-rests on a function, so a law that fails there fails in the whole library. An edit that is not refused there is tried on the whole."""
+An edit of specs/ is tried first on the crate without its functions: its types, constants, definitions and laws. No definition and no law
+rests on a function, so a law that fails there fails in the whole crate. An edit that is not refused there is tried on the whole."""
 import os
 import re
 import shutil
@@ -191,9 +192,9 @@ def proved_before(folder, name):
 
 
 def try_definitions(name, edits, proved):
-    """Tries the edits of specs/ on the library without its functions: the lines to print of those that are refused, by edit."""
+    """Tries the edits of specs/ on the crate without its functions: the lines to print of those that are refused, by edit."""
     lines, edits = {}, [edit for edit in edits if changes_specs(edit)]
-    if not edits or not os.path.isfile(f"crates/{name}/src/lib.rt"):
+    if not edits:
         return lines
     with copy_of(name, proved) as folder:
         crate = folder / "crates" / name

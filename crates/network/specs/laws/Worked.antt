@@ -1,11 +1,12 @@
 -- Document 01's worked network of two buses, by computing the definitions; its verdict follows from demand 3 alone.
 -- Assumes nothing.
 use Prim.Native.Nat.{ℕ, _+_, _*_, _≤_, _<_}
-use mathlib.Core.Path.{_≡_, refl, sym, _∙_}
+use mathlib.Core.Path.{_≡_, refl, sym, _∙_, ap}
 use mathlib.Core.Bool.{true}
 use mathlib.Core.List.{List, [], _∷_}
 use native.Mathlib.Omega.{arith}
 use native.Mathlib.Nat.{lt-of-not-le, le-dest}
+use lib.Ieee.{Float}
 use lib.Dec.{eqb→eq, leb→le, le→leb, ltb→lt, lit<}
 use borrow.Author.Tests.{le-ltb, lt-leb}
 use Rattle.algebra.specs.Reading.{from, read, _⊹_, _⋆_}
@@ -178,6 +179,9 @@ two-same : machinesOf (amperesGiven two 0) ≡ machinesOf (amperesGiven bare 0)
 unfolding foundGiven
 two-same = told-same (foundGiven two 0) two-promised
 
+two-same-each : (amperesGiven two 0 .lower .0 ≡ amperesGiven bare 0 .lower .0) × (amperesGiven two 0 .upper .0 ≡ amperesGiven bare 0 .upper .0) × (amperesGiven two 0 .peak .0 ≡ amperesGiven bare 0 .peak .0)
+two-same-each = (ap (λ (m : Float × Float × Float). m .0) two-same, ap (λ (m : Float × Float × Float). m .1) two-same, ap (λ (m : Float × Float × Float). m .2) two-same)
+
 -- DOCUMENT 01'S STARRED POINTS, as one table
 pub record Starred : Type 0 where
   pub factors : factors.Starred
@@ -190,8 +194,9 @@ pub record Starred : Type 0 where
   pub converters : convertersAt two 0 .re ≡ 200 * convertersAt two 0 .den
   -- "networks alike in all but their converters": with the converter and without it
   pub same : machinesOf (amperesGiven two 0) ≡ machinesOf (amperesGiven bare 0)
+  pub same-each : (amperesGiven two 0 .lower .0 ≡ amperesGiven bare 0 .lower .0) × (amperesGiven two 0 .upper .0 ≡ amperesGiven bare 0 .upper .0) × (amperesGiven two 0 .peak .0 ≡ amperesGiven bare 0 .peak .0)
   -- "rating 7,898 with ample peak rating gives C"
   pub verdict : verdictGiven two 0 ≡ Close
 
 pub starred : Starred
-starred = record { factors = factors.starred; made = two-made; impedances = impedances; current = current; converters = converters; same = two-same; verdict = two-close }
+starred = record { factors = factors.starred; made = two-made; impedances = impedances; current = current; converters = converters; same = two-same; same-each = two-same-each; verdict = two-close }
