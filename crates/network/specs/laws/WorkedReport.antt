@@ -1,5 +1,5 @@
--- What the promises of a query and of a report say of document 01's worked network, to the ampere. Both ends of each range keep them, and
--- nothing beyond does. Each hypothesis of a promise is met here, so that none is one that never holds. Assumes nothing.
+-- What the promises of a query and of a report say of document 01's worked network, to the ampere. At bus 0 both ends of each range keep
+-- them, and nothing beyond does. Each hypothesis of a promise is met here, so that none is one that never holds. Assumes nothing.
 use Prim.Native.Nat.{ℕ, _*_, _-_, _≤_, _<_}
 use mathlib.Core.Path.{_≡_, refl, sym, _∙_}
 use mathlib.Core.List.{List}
