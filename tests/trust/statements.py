@@ -175,23 +175,21 @@ def layout_faults(root, page):
                 yield f'{path}: this is not laid out as one definition: {lines[0][1].strip()}'
 
 
-def name_faults(tree, page):
-    """Names that mean two things: imported under another name, or defined again above the file that defines them."""
-    root, defined = tree.root, {}
+def name_faults(root, page):
+    """Names that mean two things: defined again above the file that defines them, or given to what is imported under another."""
+    defined = {}
     for path in page.tables['A']:
         for name in own_names(root, path):
             defined.setdefault(name, set()).add(path)
-    for path in page.tables['A'] + page.tables['B'] + list(page.theorems):
-        if os.path.exists(os.path.join(root, path)):
-            for name in own_names(root, path):
-                for other in sorted(defined.get(name, set()) - {path}):
-                    if other.split('/')[1] in crates_below(root, path.split('/')[1]) and path in page.tables['A']:
-                        yield f'{path} defines {name}, which {other} defines'
+    for path in page.tables['A']:
+        below = crates_below(root, path.split('/')[1])
+        for name in own_names(root, path):
+            for other in sorted(x for x in defined[name] - {path} if x.split('/')[1] in below):
+                yield f'{path} defines {name}, which {other} defines'
     sources = [path for name in crates_below(root) for path in contract_files(root, name)]
-    for path in page.tables['A'] + page.tables['B'] + list(page.theorems) + sources:
-        if os.path.exists(os.path.join(root, path)):
-            for line in re.findall(r'^(?:ghost |pub )?use .*\{.*\bas\b.*\};?$', read(root, path), re.M):
-                yield f'{path} gives another name to what it imports: {line}'
+    for path in (x for x in page.tables['A'] + page.tables['B'] + [*page.theorems] + sources if os.path.exists(os.path.join(root, x))):
+        for line in re.findall(r'^(?:ghost |pub )?use .*\{.*\bas\b.*\};?$', read(root, path), re.M):
+            yield f'{path} gives another name to what it imports: {line}'
 
 
 def contract_layout_faults(root):

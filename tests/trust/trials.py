@@ -112,7 +112,7 @@ def without_its_edit(folder, tree, page):
             edit.unlink()
 
 
-def without_a_hypothesis_quoted(folder, tree, page):
+def hypothesis_turned_round(folder, tree, page):
     """The sameness of a query promised of open networks alone."""
     changed(folder, 'crates/network/specs/Promise.antt', 'run ds .closed ≡ true', 'run ds .closed ≡ false')
 
@@ -158,7 +158,7 @@ def planted(what, path, old, new):
 TRIALS = (
     (loosened, 'no must-fail edit quotes this statement whole: Narrow'),
     (without_its_edit, 'no must-fail edit quotes this statement whole: Narrow'),
-    (without_a_hypothesis_quoted, 'no must-fail edit quotes this statement whole: pub same'),
+    (hypothesis_turned_round, 'no must-fail edit quotes this statement whole: pub same'),
     (one_function_more, 'does not give the clauses of network::report::report'),
     (without_a_clause, 'gives network::query::query the clauses'),
     (without_a_theorem, 'names starred, which'),

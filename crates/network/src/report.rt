@@ -96,8 +96,7 @@ pub fn report(s: Study, table: &mut [f64]) -> u32
     number
 }
 
-// A number of the row of a bus in the table of a report, NaN past the end of the table. The first test keeps the place from being more than
-// is counted.
+// A number of the row of a bus in the table of a report, NaN past the end of the table. The first test keeps 6·b + i from overflowing.
 fn number_or_nan(table: &[f64], b: usize, i: usize) -> f64
     requires { ⌜ i < 6 ⌝ }
     ensures { λ r. ⌜ r ≡ getD (now (table .entry)) (6 * b + i) nan ⌝ }
