@@ -1,16 +1,17 @@
 -- What the console makes of a line, by README, "Answers": the line that it answers, and the network after it. Definitions alone; what is
 -- answered to a line with a fault names the first reason, in the order of the code.
-use Prim.Native.Nat.{ℕ}
+use Prim.Native.Nat.{ℕ, _+_}
 use mathlib.Core.Bool.{Bool, cond, _&&_, _||_}
 use mathlib.Core.List.{List, [], _∷_}
 use lib.Dec.{leb, ltb, eqb}
 use lib.ListN.{length, take, drop, getD, replicate}
 use lib.Ieee.{Float}
+use Rattle.network.specs.declared.study.Source.{Source}
 use Rattle.network.specs.Network.{Network, network}
-use Rattle.network.specs.Grounds.{startNumber, startNetwork, busNumber, afterBus, sourceNumber, afterSource, closeNumber, afterClose}
+use Rattle.network.specs.Grounds.{startNumber, startNetwork, busNumber, afterBus, sourceNumber, afterSource, withdrawNumber, afterWithdraw, replaceNumber, afterReplace, closeNumber, afterClose, reopenNumber, afterReopen}
 use Rattle.network.specs.Query.{foundGiven}
 use Rattle.reader.specs.declared.Numbers.{Numbers}
-use Rattle.reader.specs.File.{mostFields, busCountOk, sourceCountOk, fields, busOf, sourceOf, Outcome, readOf}
+use Rattle.reader.specs.File.{mostFields, sourceFields, shortSourceFields, busCountOk, sourceCountOk, fields, busOf, sourceOf, Outcome, readOf}
 use Rattle.reader.specs.Collected.{collected}
 use Rattle.writer.specs.Writing.{writeNumber, writeLength, afterWrite}
 use Rattle.network.specs.Report.{reportNumber, reported}
@@ -105,6 +106,30 @@ sourceEffect n rest = numbered sourceCountOk (sourceBy n) n (collected (fields r
 abbrev pub closeEffect : Network → Effect
 closeEffect n = ground (closeNumber n) (afterClose n)
 
+-- "`withdraw,PLACE`"
+abbrev pub withdrawBy : Network → List ℕ → Effect
+withdrawBy n v = ground (withdrawNumber n (getD v 0 0)) (afterWithdraw n (getD v 0 0))
+
+abbrev pub withdrawEffect : Network → List ℕ → Effect
+withdrawEffect n rest = numbered (exactly 1) (withdrawBy n) n (collected (fields rest))
+
+-- "`replace,PLACE,` and seven numbers or twelve": the record stands behind the place
+abbrev pub replaceCountOk : ℕ → Bool
+replaceCountOk count = eqb count (shortSourceFields + 1) || eqb count (sourceFields + 1)
+
+unfoldable pub recordBehind : List ℕ → Source
+recordBehind v = sourceOf (drop 1 v)
+
+abbrev pub replaceBy : Network → List ℕ → Effect
+replaceBy n v = ground (replaceNumber n (getD v 0 0) (recordBehind v)) (afterReplace n (getD v 0 0) (recordBehind v))
+
+abbrev pub replaceEffect : Network → List ℕ → Effect
+replaceEffect n rest = numbered replaceCountOk (replaceBy n) n (collected (fields rest))
+
+-- "`reopen`"
+abbrev pub reopenEffect : Network → Effect
+reopenEffect n = ground (reopenNumber n) (afterReopen n)
+
 -- "`query,BUS`"
 abbrev pub queryBy : Network → List ℕ → Effect
 queryBy n v = record { answer = foundLine (foundGiven n (getD v 0 0)); network = n }
@@ -153,7 +178,7 @@ reportBy n v = cond (leb (getD v 0 0) 1000) (reportInto n (getD v 0 0)) (wrong R
 abbrev pub reportEffect : Network → List ℕ → Effect
 reportEffect n rest = numbered (exactly 1) (reportBy n) n (collected (fields rest))
 
--- the bytes of the words, each with its comma but `close`
+-- the bytes of the words, each with its comma but `close` and `reopen`
 abbrev pub startWord : List ℕ
 startWord = 115 ∷ 116 ∷ 97 ∷ 114 ∷ 116 ∷ 44 ∷ []
 
@@ -181,6 +206,15 @@ breakingWord = 98 ∷ 114 ∷ 101 ∷ 97 ∷ 107 ∷ 105 ∷ 110 ∷ 103 ∷ 44 
 abbrev pub reportWord : List ℕ
 reportWord = 114 ∷ 101 ∷ 112 ∷ 111 ∷ 114 ∷ 116 ∷ 44 ∷ []
 
+abbrev pub withdrawWord : List ℕ
+withdrawWord = 119 ∷ 105 ∷ 116 ∷ 104 ∷ 100 ∷ 114 ∷ 97 ∷ 119 ∷ 44 ∷ []
+
+abbrev pub replaceWord : List ℕ
+replaceWord = 114 ∷ 101 ∷ 112 ∷ 108 ∷ 97 ∷ 99 ∷ 101 ∷ 44 ∷ []
+
+abbrev pub reopenWord : List ℕ
+reopenWord = 114 ∷ 101 ∷ 111 ∷ 112 ∷ 101 ∷ 110 ∷ []
+
 -- THE EFFECT OF A LINE: by the word that it begins with, and what stands behind that
 abbrev pub behind : List ℕ → List ℕ → List ℕ
 behind word line = drop (length word) line
@@ -196,7 +230,10 @@ callEffect n line =
     (cond (beginsWith writeWord line) (writeEffect n (behind writeWord line))
     (cond (beginsWith breakingWord line) (breakingEffect n (behind breakingWord line))
     (cond (beginsWith reportWord line) (reportEffect n (behind reportWord line))
-    (wrong Unknown n)))))))))
+    (cond (beginsWith withdrawWord line) (withdrawEffect n (behind withdrawWord line))
+    (cond (beginsWith replaceWord line) (replaceEffect n (behind replaceWord line))
+    (cond (isWord reopenWord line) (reopenEffect n)
+    (wrong Unknown n))))))))))))
 
 -- "an input line has at most 140,000 bytes"
 unfoldable pub lineEffect : Network → List ℕ → Effect

@@ -12,7 +12,7 @@ ghost use Rattle.network.specs.Tables.{tableAfter};
 ghost use Rattle.breaking.specs.Breaking.{breakingNumber, figureAfter};
 ghost use Rattle.breaking.specs.Doubles.{partAt, tableOf, figureAt};
 ghost use Rattle.console.specs.Answers.{filler, tableFiller};
-ghost use Rattle.console.specs.Effects.{Lent, effectOf, exactly, counted, reasonOf, startEffect, busEffect, sourceEffect, closeEffect, queryEffect, readEffect, writeEffect, breakingEffect, reportEffect, callEffect};
+ghost use Rattle.console.specs.Effects.{Lent, effectOf, exactly, counted, reasonOf, startEffect, busEffect, sourceEffect, closeEffect, withdrawEffect, replaceCountOk, recordBehind, replaceEffect, reopenEffect, queryEffect, readEffect, writeEffect, breakingEffect, reportEffect, callEffect};
 use crate::hex::Decoded;
 use crate::hex::TEXT;
 use crate::hex::decode;
@@ -30,6 +30,7 @@ use crate::words::begins;
 use crate::words::is;
 use breaking::BreakingAnswer;
 use network::report::report;
+use network::study::Source;
 use network::study::Study;
 use reader::MOST_FIELDS;
 use reader::Numbers;
@@ -94,6 +95,61 @@ fn make_close(s: Study) -> Turn
     ensures { λ r. ⌜ ((lent : Lent) → effectOf lent r ≡ closeEffect (network s)) ⌝ }
 {
     answered(network::calls::close(s))
+}
+
+fn make_withdraw(s: Study, rest: &[u8]) -> Turn
+    ensures { λ r. ⌜ ((lent : Lent) → effectOf lent r ≡ withdrawEffect (network s) (now (rest .entry))) ⌝ }
+{
+    let n = numbers_of(rest);
+    let v = n.values;
+    if takes(n, 1) {
+        return answered(network::calls::withdraw(s, v[0]));
+    }
+    failed(s, reason_of(n))
+}
+
+// As many numbers as a place and a source record have.
+fn replace_count_ok(count: usize) -> bool
+    ensures { λ r. ⌜ r ≡ replaceCountOk count ⌝ }
+{
+    (count == 8) | (count == 13)
+}
+
+// The source record behind a place.
+fn source_behind(v: [u32; MOST_FIELDS]) -> Source
+    ensures { λ r. ⌜ r ≡ recordBehind v ⌝ }
+{
+    Source {
+        kind: v[1],
+        bus: v[2],
+        f1: v[3],
+        f2: v[4],
+        f3: v[5],
+        f4: v[6],
+        f5: v[7],
+        low: v[8],
+        high: v[9],
+        transformer_kva: v[10],
+        uk: v[11],
+        ur: v[12],
+    }
+}
+
+fn make_replace(s: Study, rest: &[u8]) -> Turn
+    ensures { λ r. ⌜ ((lent : Lent) → effectOf lent r ≡ replaceEffect (network s) (now (rest .entry))) ⌝ }
+{
+    let n = numbers_of(rest);
+    let v = n.values;
+    if n.ok & replace_count_ok(n.count) {
+        return answered(network::calls::replace(s, v[0], source_behind(v)));
+    }
+    failed(s, reason_of(n))
+}
+
+fn make_reopen(s: Study) -> Turn
+    ensures { λ r. ⌜ ((lent : Lent) → effectOf lent r ≡ reopenEffect (network s)) ⌝ }
+{
+    answered(network::calls::reopen(s))
 }
 
 fn make_query(s: Study, rest: &[u8]) -> Turn
@@ -262,6 +318,15 @@ pub(crate) fn make_call(
     }
     if begins(line, b"report,") {
         return make_report(s, after(line, 7), table);
+    }
+    if begins(line, b"withdraw,") {
+        return make_withdraw(s, after(line, 9));
+    }
+    if begins(line, b"replace,") {
+        return make_replace(s, after(line, 8));
+    }
+    if is(line, b"reopen") {
+        return make_reopen(s);
     }
     failed(s, Reason::Unknown)
 }

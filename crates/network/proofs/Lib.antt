@@ -1,4 +1,5 @@
 mod Adding
+mod Changing
 mod Filling
 mod Lists
 mod Sizes

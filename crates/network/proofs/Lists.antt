@@ -10,6 +10,7 @@ use mathlib.Core.Bool.{_&&_}
 use Rattle.network.specs.laws.Tests.{by-test}
 use lib.ListN.{length, take, set, getD, length-take, List·getD-eq-default}
 use lib.Seq.{take-suc-set, getD-take}
+use Rattle.network.specs.Network.{removed}
 pub use Rattle.network.specs.laws.Arrays.{length-mapped}
 
 -- as many records as are counted are the counted ones
@@ -65,3 +66,29 @@ module _ {X : Type 0} (cap n : ℕ) (l : List X) (whole : length l ≡ cap) wher
 
   pub appended-same : (x d : X) → n < cap → (k : ℕ) → k ≤ n → getD (take n l ++ (x ∷ [])) k d ≡ getD (set l n x) k d
   appended-same x d h k p = rw (← appended x h) (getD-take (n + 1) (set l n x) k d (omega arith))
+
+-- ---- a record left out by moving those behind it up, one after the other
+-- a store within the records that are counted
+pub take-stored : {X : Type 0} (n : ℕ) (l : List X) (i : ℕ) (x : X) → take n (set l i x) ≡ set (take n l) i x
+take-stored zero l i x = refl
+take-stored (suc n) [] i x = refl
+take-stored (suc n) (y ∷ l) zero x = refl
+take-stored (suc n) (y ∷ l) (suc i) x = ap (λ (r : List _). y ∷ r) (take-stored n l i x)
+
+-- where the record behind place i is copied to it, the place to leave out is the next one
+pub removed-moved : {X : Type 0} (l : List X) (i : ℕ) (d : X) → suc i < length l → removed (suc i) (set l i (getD l (suc i) d)) ≡ removed i l
+removed-moved [] i d h = absurd (omega arith)
+removed-moved (x ∷ []) i d h = absurd (omega arith)
+removed-moved (x ∷ y ∷ l) zero d h = refl
+removed-moved (x ∷ y ∷ l) (suc i) d h = ap (λ (r : List _). x ∷ r) (removed-moved (y ∷ l) i d (omega arith))
+
+pub moved-up : {X : Type 0} (n : ℕ) (l : List X) (i : ℕ) (d : X) → i + 1 < n → n ≤ length l → removed (i + 1) (take n (set l i (getD l (i + 1) d))) ≡ removed i (take n l)
+moved-up n l i d h m =
+    rw (add-one i, take-stored n l i (getD l (suc i) d), ← getD-take n l (suc i) d (omega arith))
+    (removed-moved (take n l) i d (omega (arith, length-take n l)))
+
+-- and left out at the end it is no longer counted
+pub removed-last : {X : Type 0} (l : List X) (i : ℕ) → i < length l → removed i (take (suc i) l) ≡ take i l
+removed-last [] i h = absurd (omega arith)
+removed-last (x ∷ l) zero h = refl
+removed-last (x ∷ l) (suc i) h = ap (λ (r : List _). x ∷ r) (removed-last l i (omega arith))

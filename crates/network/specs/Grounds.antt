@@ -1,6 +1,6 @@
 -- The grounds on which a call is refused, in the order in which document 01 has them tried; the network after each call, and the network
 -- that a list of calls leaves.
-use mathlib.Core.Bool.{Bool, true, not, cond, _&&_, _||_}
+use mathlib.Core.Bool.{Bool, true, false, not, cond, _&&_, _||_}
 use mathlib.Core.List.{List, [], _∷_, _++_}
 use Prim.Native.Nat.{ℕ}
 use lib.Dec.{leb, ltb, eqb}
@@ -9,7 +9,7 @@ use Rattle.network.specs.declared.study.Bus.{Bus}
 use Rattle.network.specs.declared.study.Source.{Source}
 use Rattle.network.specs.Records.{inRange, toleranceOk, voltsOk, ratingOk, branchOk, ratedOk}
 use Rattle.network.specs.SourceKinds.{isFeeder, isUnit, sourceKindOk, fieldsOk, isRated, machineVolts}
-use Rattle.network.specs.Network.{Network, openOf, withBus, withSource, closedAs, busAt, parentRecord, depthOf, transformersOf}
+use Rattle.network.specs.Network.{Network, openOf, withBus, withSource, withoutSource, withSourceAt, closedAs, busAt, parentRecord, depthOf, transformersOf}
 use Rattle.tree.specs.Limits.{Limits, here, maxBranches, maxTransformers}
 
 -- a ground: the test that a call has to pass, and the number that it is refused with
@@ -160,12 +160,54 @@ closeNumber n = first (closeGrounds n)
 unfoldable pub afterClose : Network → Network
 afterClose n = cond (eqb (closeNumber n) 0) (closedAs true n) n
 
--- a call on a study: started with a tolerance, given a bus record or a source record, closed, asked for a bus
+-- ---- withdrawing a source (document 02, order 8)
+-- "34 when the place is 0 or holds nothing, tried before all other grounds."
+abbrev pub placeOk : Network → ℕ → Bool
+placeOk n j = ltb 0 j && ltb j (length (n .sources))
+
+abbrev pub withdrawGrounds : Network → ℕ → List Ground
+withdrawGrounds n j = on (placeOk n j) 34 ∷ []
+
+unfoldable pub withdrawNumber : Network → ℕ → ℕ
+withdrawNumber n j = first (withdrawGrounds n j)
+
+-- "later sources move up one place in order"
+unfoldable pub afterWithdraw : Network → ℕ → Network
+afterWithdraw n j = cond (eqb (withdrawNumber n j) 0) (withoutSource n j) n
+
+-- ---- replacing a source
+-- "checked like an addition except for 21 and 24": as the source at that place
+abbrev pub replaceGrounds : Network → ℕ → Source → List Ground
+replaceGrounds n j p = on (placeOk n j) 34 ∷ sourceGrounds (n .buses) j p
+
+unfoldable pub replaceNumber : Network → ℕ → Source → ℕ
+replaceNumber n j p = first (replaceGrounds n j p)
+
+-- "A new record for a place supersedes the old"
+unfoldable pub afterReplace : Network → ℕ → Source → Network
+afterReplace n j p = cond (eqb (replaceNumber n j p) 0) (withSourceAt n j p) n
+
+-- ---- reopening
+-- "A closed study can be reopened; an open one gives 22."
+abbrev pub reopenGrounds : Network → List Ground
+reopenGrounds n = on (n .closed) 22 ∷ []
+
+unfoldable pub reopenNumber : Network → ℕ
+reopenNumber n = first (reopenGrounds n)
+
+unfoldable pub afterReopen : Network → Network
+afterReopen n = cond (eqb (reopenNumber n) 0) (closedAs false n) n
+
+-- a call on a study: started with a tolerance, given a bus record or a source record, deprived of the source at a place, given another
+-- record for it, closed, reopened, asked for a bus
 pub data Call : Type 0 where
   starting : ℕ → Call
   addingBus : Bus → Call
   addingSource : Source → Call
+  withdrawing : ℕ → Call
+  replacing : ℕ → Source → Call
   closing : Call
+  reopening : Call
   querying : ℕ → Call
 
 -- the network after a call; a query changes nothing
@@ -173,7 +215,10 @@ abbrev pub step : Network → Call → Network
 step n (starting t) = startNetwork t
 step n (addingBus b) = afterBus n b
 step n (addingSource p) = afterSource n p
+step n (withdrawing j) = afterWithdraw n j
+step n (replacing j p) = afterReplace n j p
 step n closing = afterClose n
+step n reopening = afterReopen n
 step n (querying i) = n
 
 -- the calls of a list, the first one first

@@ -9,6 +9,7 @@ pub mod Demand
 pub mod RoundedSourceKinds
 pub mod Doubles
 pub mod Query
+pub mod PlainList
 pub mod Promise
 pub mod Tables
 pub mod Report

@@ -1,9 +1,9 @@
 -- The network of a study: its tolerance, whether it is closed, and the lists of its records, each kind in order.
 use mathlib.Core.Bool.{Bool, false, cond}
 use mathlib.Core.List.{List, [], _∷_, _++_}
-use Prim.Native.Nat.{ℕ, _+_}
+use Prim.Native.Nat.{ℕ, zero, suc, _+_}
 use lib.Dec.{eqb}
-use lib.ListN.{take, getD}
+use lib.ListN.{take, getD, set}
 pub use Rattle.tree.specs.Limits.{Limits, here, maxBuses, maxSources, maxBranches, maxTransformers}
 use Rattle.tree.specs.Grid.{toward}
 use Rattle.network.specs.declared.study.Bus.{Bus}
@@ -43,6 +43,22 @@ withSources n ps = record { tolerance = n .tolerance; closed = n .closed; buses 
 -- with one source more, at the next place
 abbrev pub withSource : Network → Source → Network
 withSource n p = withSources n (n .sources ++ (p ∷ []))
+
+-- a list without the element at place j, those behind it one place up; and with another element there
+abbrev pub removed : {X : Type 0} → ℕ → List X → List X
+removed j [] = []
+removed zero (x ∷ l) = l
+removed (suc j) (x ∷ l) = x ∷ removed j l
+
+abbrev pub rewritten : {X : Type 0} → ℕ → X → List X → List X
+rewritten j x l = set l j x
+
+-- without the source at place j, and with another record there
+abbrev pub withoutSource : Network → ℕ → Network
+withoutSource n j = withSources n (removed j (n .sources))
+
+abbrev pub withSourceAt : Network → ℕ → Source → Network
+withSourceAt n j p = withSources n (rewritten j p (n .sources))
 
 -- closed or open
 abbrev pub closedAs : Bool → Network → Network

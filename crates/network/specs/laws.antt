@@ -6,8 +6,10 @@ pub mod Ways
 pub mod Each
 pub mod Acceptance
 pub mod Additions
-pub mod Rebuilt
+pub mod Invariant
 pub mod SourcesChanged
+pub mod Rebuilt
+pub mod PlainList
 pub mod AcceptedRecords
 pub mod Reached
 pub mod ElementSizes

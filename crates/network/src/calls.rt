@@ -1,4 +1,5 @@
-// The calls on a study: started with a voltage tolerance, given bus records and source records one by one, closed.
+// The calls on a study: started with a voltage tolerance, given bus records and source records one by one, deprived of sources or given
+// others in their places, closed and reopened.
 // Every call is total: it carries the number of the ground on which it was refused, 0 where it was accepted.
 ghost use mathlib.Core.Path.{_≡_};
 ghost use mathlib.Core.Bool.{true};
@@ -7,7 +8,7 @@ ghost use lib.ListN.{length};
 ghost use Rattle.tree.specs.Limits.{maxSources};
 ghost use Rattle.network.specs.declared.study.Study.{Study};
 ghost use Rattle.network.specs.Network.{network, busAt};
-ghost use Rattle.network.specs.Grounds.{startNumber, startNetwork, busNumber, afterBus, sourceNumber, afterSource, closeNumber, afterClose};
+ghost use Rattle.network.specs.Grounds.{startNumber, startNetwork, busNumber, afterBus, sourceNumber, afterSource, placeOk, withdrawNumber, afterWithdraw, replaceNumber, afterReplace, closeNumber, afterClose, reopenNumber, afterReopen};
 use crate::bus_grounds::bus_record_number;
 use crate::source_grounds::source_record_number;
 use crate::study::BUSES;
@@ -15,6 +16,7 @@ use crate::study::Bus;
 use crate::study::SOURCES;
 use crate::study::Source;
 use crate::study::Study;
+use crate::study::clamped_sources;
 use crate::study::empty_study;
 use crate::study::place_in;
 
@@ -118,6 +120,77 @@ pub fn add_source(s: Study, p: Source) -> Answer
     }
 }
 
+// Ground 34: a place that holds a source and is not the first, by how many sources the study counts.
+fn place_ok(count: usize, place: usize) -> bool
+    ensures { λ r. ⌜ ((s : Study) → s .«source_count» ≡ count → length (s .sources) ≡ maxSources → r ≡ placeOk (network s) place) ⌝ }
+{
+    (0 < place) & (place < clamped_sources(count))
+}
+
+// The study without the source at a place, which are counted from 0; those behind it move up by one. Refused: 34 where the place is 0 or
+// holds nothing.
+pub fn withdraw(s: Study, place: u32) -> Answer
+    ensures number { λ r. ⌜ r .number ≡ withdrawNumber (network s) place ⌝ }
+    ensures kept { λ r. ⌜ ((r .number ≡ 0 → ⊥) → r .study ≡ s) ⌝ }
+    ensures network { λ r. ⌜ network (r .study) ≡ afterWithdraw (network s) place ⌝ }
+{
+    let j = place as usize;
+    if !place_ok(s.source_count, j) {
+        return Answer {
+            number: 34,
+            study: s,
+        };
+    }
+    let n = clamped_sources(s.source_count);
+    let last = n - 1;
+    let mut next = s;
+    let mut i = j;
+    while i < last {
+        let behind = i + 1;
+        let p = next.sources[behind];
+        next.sources[i] = p;
+        i = behind;
+    }
+    next.source_count = last;
+    Answer {
+        number: 0,
+        study: next,
+    }
+}
+
+// The study with another record for the source at a place. Refused: 34 where the place is 0 or holds nothing, 10 to 14 and 32 by the
+// record at that place.
+pub fn replace(s: Study, place: u32, p: Source) -> Answer
+    ensures number { λ r. ⌜ r .number ≡ replaceNumber (network s) place p ⌝ }
+    ensures kept { λ r. ⌜ ((r .number ≡ 0 → ⊥) → r .study ≡ s) ⌝ }
+    ensures network { λ r. ⌜ network (r .study) ≡ afterReplace (network s) place p ⌝ }
+{
+    let j = place as usize;
+    if !place_ok(s.source_count, j) {
+        return Answer {
+            number: 34,
+            study: s,
+        };
+    }
+    let bus = p.bus as usize;
+    let at = place_in(bus);
+    let b = s.buses[at];
+    let bus_there = (bus < s.bus_count) & (bus < BUSES);
+    let record_ground = source_record_number(bus_there, b, j, p);
+    if record_ground != 0 {
+        return Answer {
+            number: record_ground,
+            study: s,
+        };
+    }
+    let mut next = s;
+    next.sources[j] = p;
+    Answer {
+        number: record_ground,
+        study: next,
+    }
+}
+
 // The study closed. Refused: 21 closed already, 25 without a source.
 pub fn close(s: Study) -> Answer
     ensures number { λ r. ⌜ r .number ≡ closeNumber (network s) ⌝ }
@@ -138,6 +211,26 @@ pub fn close(s: Study) -> Answer
     }
     let mut next = s;
     next.closed = true;
+    Answer {
+        number: 0,
+        study: next,
+    }
+}
+
+// The study open again. Refused: 22 not closed.
+pub fn reopen(s: Study) -> Answer
+    ensures number { λ r. ⌜ r .number ≡ reopenNumber (network s) ⌝ }
+    ensures kept { λ r. ⌜ ((r .number ≡ 0 → ⊥) → r .study ≡ s) ⌝ }
+    ensures network { λ r. ⌜ network (r .study) ≡ afterReopen (network s) ⌝ }
+{
+    if !s.closed {
+        return Answer {
+            number: 22,
+            study: s,
+        };
+    }
+    let mut next = s;
+    next.closed = false;
     Answer {
         number: 0,
         study: next,

@@ -1,8 +1,6 @@
 // The columns of a study: what the sweeps over its tree read of the records, a number or a point for each bus.
 ghost use mathlib.Core.Path.{_≡_};
-ghost use Prim.Native.Nat.{min};
 ghost use lib.ListN.{take};
-ghost use Rattle.tree.specs.Limits.{maxSources};
 ghost use Rattle.network.specs.Doubles.{treeOf, branchPoints, standingOf};
 use crate::records::branch_impedance;
 use crate::records::rated_volts;
@@ -13,6 +11,7 @@ use crate::study::BUSES;
 use crate::study::Bus;
 use crate::study::SOURCES;
 use crate::study::Source;
+use crate::study::clamped_sources;
 use enclosure::add;
 use sweep::columns::Points;
 use sweep::columns::clamped;
@@ -83,13 +82,6 @@ pub(crate) fn branches(
         i += 1;
     }
     Points { re, im }
-}
-
-// n, or the greatest number of sources for any more.
-fn clamped_sources(n: usize) -> usize
-    ensures { λ r. ⌜ r ≡ min n maxSources ⌝ }
-{
-    if n < SOURCES { n } else { SOURCES }
 }
 
 // What stands at each bus, of the first n sources: its machines' admittances by the column of nominal volts, its converters' currents.

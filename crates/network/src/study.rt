@@ -1,8 +1,8 @@
 // A study: the records that it is given, and the room that it has for them.
 ghost use mathlib.Core.Path.{_≡_};
-ghost use Prim.Native.Nat.{_<_};
+ghost use Prim.Native.Nat.{_<_, min};
 ghost use lib.ListN.{length};
-ghost use Rattle.tree.specs.Limits.{maxBuses};
+ghost use Rattle.tree.specs.Limits.{maxBuses, maxSources};
 ghost use Rattle.network.specs.Network.{blank, blankSource, network};
 ghost use Rattle.network.specs.Grounds.{emptyOf};
 
@@ -108,6 +108,13 @@ pub fn source_total(s: Study) -> usize
         return s.source_count;
     }
     SOURCES
+}
+
+// n, or the greatest number of sources for any more.
+pub(crate) fn clamped_sources(n: usize) -> usize
+    ensures { λ r. ⌜ r ≡ min n maxSources ⌝ }
+{
+    if n < SOURCES { n } else { SOURCES }
 }
 
 // The place of bus i in the array; some place, where the array has none for it.

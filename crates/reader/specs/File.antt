@@ -2,7 +2,7 @@
 -- the outcome of taking them in order.
 use mathlib.Core.Bool.{Bool, true, false, not, cond, _&&_, _||_}
 use mathlib.Core.List.{List, [], _∷_, _++_}
-use Prim.Native.Nat.{ℕ, _+_, _*_, _-_, _^_, max}
+use Prim.Native.Nat.{ℕ, _+_, _*_, _-_, _^_}
 use lib.Dec.{ltb, eqb}
 use lib.ListN.{length, getD}
 use Rattle.network.specs.declared.study.Bus.{Bus}
@@ -21,8 +21,8 @@ use Rattle.reader.specs.declared.Row.the-variants.{Start, WithBus, WithS
 abbrev pub maxBytes : ℕ
 maxBytes = 65536
 
--- "`B,` with ten fields or `P,` with seven"; "Source records become twelve fields" (document 02, order 5); and the most that a row of any
--- kind has
+-- "`B,` with ten fields or `P,` with seven"; "Source records become twelve fields" (document 02, order 5); and the most numbers that are
+-- taken of a row: more than any row has, and as many as a line of the console may have behind its word
 abbrev pub busFields : ℕ
 busFields = 10
 
@@ -33,7 +33,7 @@ abbrev pub shortSourceFields : ℕ
 shortSourceFields = 7
 
 abbrev pub mostFields : ℕ
-mostFields = max busFields sourceFields
+mostFields = 16
 
 -- how many numbers make a bus row, and how many a source row: "a P row of seven is still read as if filled with zeros"
 abbrev pub busCountOk : ℕ → Bool

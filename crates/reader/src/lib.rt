@@ -29,14 +29,15 @@ pub use rows::source_of;
 // The most bytes that a text may have.
 const BYTES: usize = 65_536;
 
-// The fields of a bus row and of a source row, those of a source row without a transformer's, and the most that a row of any kind has.
+// The fields of a bus row and of a source row, those of a source row without a transformer's, and the most numbers that are taken of a
+// row: more than any row has, and as many as a line of the console may have behind its word.
 pub const BUS_FIELDS: usize = 10;
 
 pub const SOURCE_FIELDS: usize = 12;
 
 const SHORT_SOURCE_FIELDS: usize = 7;
 
-pub const MOST_FIELDS: usize = SOURCE_FIELDS;
+pub const MOST_FIELDS: usize = 16;
 
 // What the bytes of a field say.
 pub enum Number {

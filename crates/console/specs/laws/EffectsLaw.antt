@@ -1,14 +1,16 @@
 -- Laws of effects: which of its cases the effect of a line is. Assumes nothing.
-use Prim.Native.Nat.{ℕ, _/_, _≤_, _<_}
+use Prim.Native.Nat.{ℕ, _+_, _/_, _≤_, _<_}
 use mathlib.Core.Path.{_≡_, refl, sym, _∙_, ap}
 use mathlib.Core.Bool.{Bool, true, false, cond, _&&_}
 use mathlib.Core.List.{List}
 use native.Mathlib.Omega.{arith}
 use lib.Dec.{leb}
-use lib.ListN.{length, take, getD, replicate}
+use lib.ListN.{length, take, drop, getD, replicate}
+use lib.Seq.{getD-drop}
 use lib.Ieee.{Float}
 use borrow.Author.Tests.{leb-true, leb-false, le-leb, lt-leb, lt-ltb, le-ltb}
 use Rattle.network.specs.laws.Tests.{by-test, both-true}
+use Rattle.network.specs.declared.study.Source.{Source}
 use Rattle.network.specs.Network.{Network}
 use Rattle.network.specs.Query.{queryNumber, amperesGiven, verdictGiven, foundGiven}
 use Rattle.network.specs.declared.query.Found.{Found}
@@ -25,7 +27,7 @@ use Rattle.console.specs.declared.turns.Reason.{Reason}
 use Rattle.console.specs.declared.turns.Reason.the-variants.{Hex, Room, Unknown, Long}
 use Rattle.console.specs.Answers.{readingLine, writtenLine, brokenLine, reportLine, filler, tableFiller}
 use Rattle.console.specs.Lines.{beginsWith, isWord, hexPairs, hexBytes, decodedOf}
-use Rattle.console.specs.Effects.{Effect, wrong, counted, reasonOf, numbered, startEffect, busEffect, sourceEffect, closeEffect, queryEffect, readBy, readEffect, writeInto, writeBy, writeEffect, breakInto, breakingBy, breakingEffect, reportInto, reportBy, reportEffect, startWord, busWord, sourceWord, closeWord, queryWord, readWord, writeWord, breakingWord, reportWord, behind, callEffect, lineEffect}
+use Rattle.console.specs.Effects.{Effect, wrong, counted, reasonOf, numbered, startEffect, busEffect, sourceEffect, closeEffect, queryEffect, readBy, readEffect, writeInto, writeBy, writeEffect, breakInto, breakingBy, breakingEffect, reportInto, reportBy, reportEffect, withdrawEffect, replaceEffect, reopenEffect, recordBehind, startWord, busWord, sourceWord, closeWord, queryWord, readWord, writeWord, breakingWord, reportWord, withdrawWord, replaceWord, reopenWord, behind, callEffect, lineEffect}
 
 -- ---- so many numbers, or not; v are those that the code has
 module _ (wanted : ℕ → Bool) (call : List ℕ → Effect) (n : Network) (v w : Numbers) (e : v ≡ w) (t : Bool) (h : t ≡ counted v wanted) where
@@ -36,6 +38,15 @@ module _ (wanted : ℕ → Bool) (call : List ℕ → Effect) (n : Network) (v w
   pub numbers-wrong : t ≡ false → (reason : Reason) → reason ≡ reasonOf v → wrong reason n ≡ numbered wanted call n w
   unfolding numbered
   numbers-wrong k reason r = let y : counted v wanted ≡ false = sym h ∙ k in rw (← e, y, r)
+
+-- ---- a replacement: the record behind the place, number by number
+pub record-behind : (v : List ℕ) (p : Source)
+    → p ≡ record { kind = getD v 1 0; bus = getD v 2 0; f1 = getD v 3 0; f2 = getD v 4 0; f3 = getD v 5 0; f4 = getD v 6 0; f5 = getD v 7 0; low = getD v 8 0; high = getD v 9 0; «transformer_kva» = getD v 10 0; uk = getD v 11 0; ur = getD v 12 0 }
+    → p ≡ recordBehind v
+unfolding recordBehind
+record-behind v p e =
+    let at : (i : ℕ) → getD (drop 1 v) i 0 ≡ getD v (1 + i) 0 = λ i. getD-drop 1 v i 0 in
+    e ∙ sym (rw (at 0, at 1, at 2, at 3, at 4, at 5, at 6, at 7, at 8, at 9, at 10, at 11))
 
 -- ---- a query
 pub found-given : (f : Found) (n : Network) (b : ℕ) → f .number ≡ queryNumber n b → f .amperes ≡ amperesGiven n b → f .verdict ≡ verdictGiven n b → f ≡ foundGiven n b
@@ -165,9 +176,24 @@ module _ (n : Network) (line : List ℕ) where
                   unfolding callEffect
                   call-report e = rw (a, b, d, f, g, h, i, j, e)
 
-                  pub call-unknown : beginsWith reportWord line ≡ false → wrong Unknown n ≡ callEffect n line
-                  unfolding callEffect
-                  call-unknown e = rw (a, b, d, f, g, h, i, j, e)
+                  module _ (k : beginsWith reportWord line ≡ false) where
+                    pub call-withdraw : beginsWith withdrawWord line ≡ true → withdrawEffect n (behind withdrawWord line) ≡ callEffect n line
+                    unfolding callEffect
+                    call-withdraw e = rw (a, b, d, f, g, h, i, j, k, e)
+
+                    module _ (l : beginsWith withdrawWord line ≡ false) where
+                      pub call-replace : beginsWith replaceWord line ≡ true → replaceEffect n (behind replaceWord line) ≡ callEffect n line
+                      unfolding callEffect
+                      call-replace e = rw (a, b, d, f, g, h, i, j, k, l, e)
+
+                      module _ (m : beginsWith replaceWord line ≡ false) where
+                        pub call-reopen : isWord reopenWord line ≡ true → reopenEffect n ≡ callEffect n line
+                        unfolding callEffect
+                        call-reopen e = rw (a, b, d, f, g, h, i, j, k, l, m, e)
+
+                        pub call-unknown : isWord reopenWord line ≡ false → wrong Unknown n ≡ callEffect n line
+                        unfolding callEffect
+                        call-unknown e = rw (a, b, d, f, g, h, i, j, k, l, m, e)
 
   -- ---- the length of a line
   pub line-long : 140000 < length line → wrong Long n ≡ lineEffect n line

@@ -11,7 +11,7 @@ use Rattle.network.specs.declared.study.Bus.{Bus}
 use Rattle.network.specs.declared.study.Source.{Source}
 use Rattle.network.specs.Network.{Network, busAt, anyBranch, ifTransformer}
 use Rattle.tree.specs.Limits.{maxBuses, maxSources}
-use Rattle.network.specs.Grounds.{Ground, first, parentOk, depthOk, busRecordNumber, addBusGrounds, busNumberIn, busNumber, sourceRecordNumber, addSourceGrounds, sourceNumberIn, sourceNumber, closeGrounds, closeNumber}
+use Rattle.network.specs.Grounds.{Ground, first, parentOk, depthOk, busRecordNumber, addBusGrounds, busNumberIn, busNumber, sourceRecordNumber, addSourceGrounds, sourceNumberIn, sourceNumber, placeOk, withdrawGrounds, withdrawNumber, afterWithdraw, replaceGrounds, replaceNumber, afterReplace, closeGrounds, closeNumber}
 use Rattle.network.specs.laws.Tests.{by-test, both-true, at-zero, past-zero}
 use Rattle.network.specs.laws.Ways.{Same, way-same}
 
@@ -87,6 +87,46 @@ source-room n p e = ltb-true (length (n .sources)) maxSources (ground (addSource
 
 pub source-accepted : (n : Network) (p : Source) → sourceNumber n p ≡ 0 → sourceRecordNumber (n .buses) (length (n .sources)) p ≡ 0
 source-accepted n p e = sym (source-number-open n p (source-open n p e) (source-room n p e)) ∙ e
+
+-- ---- withdrawing and replacing
+-- a place that holds a source and is not the first
+module _ (n : Network) (j : ℕ) where
+  pub ok-place : placeOk n j ≡ true → (0 < j) × (j < length (n .sources))
+  ok-place e =
+      let h = both-true (ltb 0 j) (ltb j (length (n .sources))) e in
+      (ltb-true 0 j (h .0), ltb-true j (length (n .sources)) (h .1))
+
+  pub withdraw-none : placeOk n j ≡ false → (34 ≡ withdrawNumber n j) × (n ≡ afterWithdraw n j)
+  unfolding withdrawNumber afterWithdraw
+  withdraw-none e = (rw e, rw e)
+
+  pub withdraw-there : placeOk n j ≡ true → 0 ≡ withdrawNumber n j
+  unfolding withdrawNumber
+  withdraw-there e = rw e
+
+  pub withdraw-behind : withdrawNumber n j ≡ 0 → 0 < j
+  unfolding withdrawNumber
+  withdraw-behind e = ok-place (ground (withdrawGrounds n j) 34 refl e) .0
+
+  module _ (p : Source) where
+    pub replace-none : placeOk n j ≡ false → (34 ≡ replaceNumber n j p) × (n ≡ afterReplace n j p)
+    unfolding replaceNumber afterReplace
+    replace-none e = (rw e, rw e)
+
+    -- the record is tried at the place
+    pub replace-number-there : placeOk n j ≡ true → replaceNumber n j p ≡ sourceRecordNumber (n .buses) j p
+    unfolding replaceNumber sourceRecordNumber
+    replace-number-there e = rw e
+
+    replace-there : replaceNumber n j p ≡ 0 → placeOk n j ≡ true
+    unfolding replaceNumber
+    replace-there e = ground (replaceGrounds n j p) 34 refl e
+
+    pub replace-behind : replaceNumber n j p ≡ 0 → 0 < j
+    replace-behind e = ok-place (replace-there e) .0
+
+    pub replace-accepted : replaceNumber n j p ≡ 0 → sourceRecordNumber (n .buses) j p ≡ 0
+    replace-accepted e = sym (replace-number-there (replace-there e)) ∙ e
 
 -- ---- closing
 pub close-fed : (n : Network) → closeNumber n ≡ 0 → 0 < length (n .sources)

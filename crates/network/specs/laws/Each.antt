@@ -5,17 +5,12 @@ use Prim.Native.Nat.{ℕ, zero, suc, _≤_, _<_}
 use native.Mathlib.Omega.{arith}
 use lib.ListN.{length, getD, set}
 use Rattle.tree.specs.Grid.{filtered}
+use Rattle.network.specs.Network.{removed}
 use Rattle.network.specs.laws.Tests.{by-test}
 
 abbrev pub Each : {X : Type 0} → (X → Type 0) → List X → Type 0
 Each P [] = Unit
 Each P (x ∷ l) = P x × Each P l
-
--- a list without the element at place j
-abbrev pub removed : {X : Type 0} → ℕ → List X → List X
-removed j [] = []
-removed zero (x ∷ l) = l
-removed (suc j) (x ∷ l) = x ∷ removed j l
 
 module _ {X : Type 0} (P : X → Type 0) where
   pub each-at : (d : X) (l : List X) → Each P l → (i : ℕ) → i < length l → P (getD l i d)

@@ -1,5 +1,5 @@
 -- Networks made from one with the invariant by changing its sources behind the first: one left out, one rewritten, only those that pass a
--- test; one more is `rebuilt-appended` in Rebuilt. Each has the invariant, closed or open as the network was, so that demand 3 (`kept` in
+-- test; one more is `rebuilt-appended` in Invariant. Each has the invariant, closed or open as the network was, so that demand 3 (`kept` in
 -- Promise) speaks of every network made from an accepted one by withdrawing, re-rating or adding a source, or by counting those of a
 -- season. The first source, the feeder, stays.
 use mathlib.Core.Path.{_≡_, refl}
@@ -10,10 +10,10 @@ use native.Mathlib.Omega.{arith}
 use lib.ListN.{length, set, length-set}
 use Rattle.tree.specs.Grid.{filtered}
 use Rattle.network.specs.declared.study.Source.{Source}
-use Rattle.network.specs.Network.{Network, withSources, sourceAt}
+use Rattle.network.specs.Network.{Network, withSources, removed, withoutSource, withSourceAt, sourceAt}
 use Rattle.tree.specs.Limits.{maxSources}
-use Rattle.network.specs.laws.Each.{Each, removed, each-removed, each-set, each-filtered, length-removed, length-filtered}
-use Rattle.network.specs.laws.Rebuilt.{Rebuilt, AcceptedAt, SourcesAccepted, source-record-past, rebuilt-sources}
+use Rattle.network.specs.laws.Each.{Each, each-removed, each-set, each-filtered, length-removed, length-filtered}
+use Rattle.network.specs.laws.Invariant.{Rebuilt, AcceptedAt, SourcesAccepted, source-record-past, rebuilt-sources}
 
 -- the first element as it is, those behind it changed by g
 abbrev pub behind : {X : Type 0} → (List X → List X) → List X → List X
@@ -38,7 +38,7 @@ module _ {n : Network} (r : Rebuilt n) where
       some (p ∷ ps) h = omega arith
 
   -- without the source at a place behind the first
-  pub rebuilt-removed : (j : ℕ) → 0 < j → Rebuilt (withSources n (removed j (n .sources)))
+  pub rebuilt-removed : (j : ℕ) → 0 < j → Rebuilt (withoutSource n j)
   rebuilt-removed zero z = absurd (omega arith)
   rebuilt-removed (suc j) z = rw (as-behind (n .sources)) (rebuilt-behind (removed j) (each-removed (AcceptedAt (n .buses) 1) j) (length-removed j))
     where
@@ -47,7 +47,7 @@ module _ {n : Network} (r : Rebuilt n) where
       as-behind (p ∷ ps) = refl
 
   -- with a record there that is accepted at that place
-  pub rebuilt-rewritten : (j : ℕ) → 0 < j → (p : Source) → AcceptedAt (n .buses) j p → Rebuilt (withSources n (set (n .sources) j p))
+  pub rebuilt-rewritten : (j : ℕ) → 0 < j → (p : Source) → AcceptedAt (n .buses) j p → Rebuilt (withSourceAt n j p)
   rebuilt-rewritten zero z p e = absurd (omega arith)
   rebuilt-rewritten (suc j) z p e =
       let at-one : AcceptedAt (n .buses) 1 p = rw (source-record-past (n .buses) 1 (suc j) p (omega arith) (omega arith)) e in

@@ -95,7 +95,7 @@ returns c =
     let s = c .before .before .before .before .before .before .before .before .before .args .s in
     let start = c .before .before .before .before .before .before .row-size .ensures letterS ∙ ap (λ (t : ℕ). length (endedRow letterS (t ∷ []))) (c .before .before .before .before .before .before .before .before .tolerance-of .ensures) in
     let buses = c .before .before .before .buses-size .ensures ∙ ap (λ (l : List _). length (recordRows letterB busNumbers l)) (counted (network s .buses) _ _ (c .before .before .before .before .bus-total .ensures) (c .before .before .before .before .before .buses-of .ensures)) in
-    let sources = c .sources-size .ensures ∙ ap (λ (l : List _). length (recordRows letterP sourceNumbers l)) (counted (network s .sources) _ _ (c .before .source-total .ensures) (c .before .before .sources-of .ensures)) in
+    let sources = c .sources-size .ensures ∙ ap (λ (l : List _). length (recordRows letterP sourceNumbers l)) (counted (network s .sources) _ _ (c .before .source-total .ensures) (c .before .before .sources-of .ensures .0)) in
     omega (arith, text-length (network s))
 
 pub text-size-spec : {M : Type 1} → statement M

@@ -47,7 +47,7 @@ returns : tie.Need-returns
 returns c =
     let n = network (c .before .before .before .before .before .before .before .before .before .args .s) in
     let buses = c .before .before .before in
-    let records = ap (λ (k : ℕ). take k (c .before .before .sources-of .result)) (c .before .source-total .ensures) ∙ c .before .before .sources-of .ensures in
+    let records = ap (λ (k : ℕ). take k (c .before .before .sources-of .result)) (c .before .source-total .ensures) ∙ c .before .before .sources-of .ensures .0 in
     let bus-records = ap (λ (k : ℕ). take k (c .before .before .before .before .before .buses-of .result)) (c .before .before .before .before .bus-total .ensures) ∙ c .before .before .before .before .before .buses-of .ensures in
     let begun : network (c .before .before .before .before .before .before .before .start .result .study) ≡ startNetwork (n .tolerance) = c .before .before .before .before .before .before .before .start .ensures .1 ∙ ap startNetwork (c .before .before .before .before .before .before .before .before .tolerance-of .ensures) in
     c .with-sources .ensures ∙ ap (λ (l : List Source). runFrom (network (buses .with-buses .result)) (map addingSource l)) records

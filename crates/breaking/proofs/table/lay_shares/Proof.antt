@@ -138,7 +138,7 @@ returns c =
     let k = take (t .result) (c .before .before .before .before .before .before .before .sources-of .result) in
     let f = partBy (c .before .before .before .before .before .before .before .before .tolerance-of .result) (a .delay) (c .before .before .drive .result) (c .before .before .before .before .before .before .before .before .before .ways-from .result) in
     let m : length k ≤ l .j = omega (arith, length-take (t .result) (c .before .before .before .before .before .before .before .sources-of .result)) in
-    let w : k ≡ network (a .s) .sources = rw (t .ensures) (c .before .before .before .before .before .before .before .sources-of .ensures) in
+    let w : k ≡ network (a .s) .sources = rw (t .ensures) (c .before .before .before .before .before .before .before .sources-of .ensures .0) in
     let e : f ≡ partAt (network (a .s)) (a .b) (a .delay) = rw (c .before .before .drive .ensures, c .before .before .before .number-at .ensures, c .before .before .before .before .before .before .before .before .before .ways-from .ensures, c .before .before .before .before .before .before .before .before .tolerance-of .ensures) refl in (
       rw (← e, ← w) (l .inv .3 ∙ ap (stepsFrom f 0) (take-all (l .j) k m)),
       rw (← e, ← w) (table-all f k (l .j) (a .table .now) (l .table) m (omega (arith, length-take (t .result) (c .before .before .before .before .before .before .before .sources-of .result), l .inv .1 .2)) (l .inv .2)),

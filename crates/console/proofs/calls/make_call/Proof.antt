@@ -3,8 +3,8 @@ use mathlib.Core.Path.{_≡_, _∙_, sym, ap}
 use mathlib.Core.Bool.{false}
 use Rattle.network.specs.Network.{network}
 use Rattle.console.specs.Lines.{beginsWith, isWord}
-use Rattle.console.specs.Effects.{startEffect, busEffect, sourceEffect, queryEffect, readEffect, writeEffect, breakingEffect, reportEffect, startWord, busWord, sourceWord, closeWord, queryWord, readWord, writeWord, breakingWord, reportWord}
-use Rattle.console.specs.laws.EffectsLaw.{call-start, call-bus, call-source, call-close, call-query, call-read, call-write, call-breaking, call-report, call-unknown}
+use Rattle.console.specs.Effects.{startEffect, busEffect, sourceEffect, queryEffect, readEffect, writeEffect, breakingEffect, reportEffect, withdrawEffect, replaceEffect, startWord, busWord, sourceWord, closeWord, queryWord, readWord, writeWord, breakingWord, reportWord, withdrawWord, replaceWord, reopenWord}
+use Rattle.console.specs.laws.EffectsLaw.{call-start, call-bus, call-source, call-close, call-query, call-read, call-write, call-breaking, call-report, call-withdraw, call-replace, call-reopen, call-unknown}
 use borrow.Author.Needs.{needs}
 use Rattle.console.proofs.calls.make_call.Statement.{statement}
 use Rattle.console.proofs.calls.make_call.Tie as tie
@@ -63,6 +63,24 @@ entry9 c = entry8 (c .before .before .before)
 
 not-report : (c : tie.Else9) → beginsWith reportWord (entry9 c .args .line .now) ≡ false
 not-report c = sym (c .before .begins8 .ensures) ∙ c .if9 .left
+
+abbrev entry10 : tie.Else10 → tie.Start
+entry10 c = entry9 (c .before .before .before)
+
+not-withdraw : (c : tie.Else10) → beginsWith withdrawWord (entry10 c .args .line .now) ≡ false
+not-withdraw c = sym (c .before .begins9 .ensures) ∙ c .if10 .left
+
+abbrev entry11 : tie.Else11 → tie.Start
+entry11 c = entry10 (c .before .before .before)
+
+not-replace : (c : tie.Else11) → beginsWith replaceWord (entry11 c .args .line .now) ≡ false
+not-replace c = sym (c .before .begins10 .ensures) ∙ c .if11 .left
+
+abbrev entry12 : tie.Else12 → tie.Start
+entry12 c = entry11 (c .before .before .before)
+
+not-reopen : (c : tie.Else12) → isWord reopenWord (entry12 c .args .line .now) ≡ false
+not-reopen c = sym (c .before .is2 .ensures) ∙ c .if12 .left
 
 slice-aggregate-begins : tie.Need-slice-aggregate-begins
 slice-aggregate-begins c = search needs
@@ -240,14 +258,71 @@ returns-9 c =
     let n = network (a .s) in
     λ h k. c .make-report .ensures .1 _ k ∙ ap (reportEffect n) (c .before .before .after8 .ensures) ∙ call-report n (a .line .now) (not-start (past .before .before .before .before .before .before .before .before .before .before .before .before .before .before .before .before .before .before .before .before .before)) (not-bus (past .before .before .before .before .before .before .before .before .before .before .before .before .before .before .before .before .before .before)) (not-source (past .before .before .before .before .before .before .before .before .before .before .before .before .before .before .before)) (not-close (past .before .before .before .before .before .before .before .before .before .before .before .before)) (not-query (past .before .before .before .before .before .before .before .before .before)) (not-read (past .before .before .before .before .before .before)) (not-write (past .before .before .before)) (not-breaking (past)) (sym (then .before .begins8 .ensures) ∙ then .if9 .taken)
 
-failed-requires : tie.Need-failed-requires
-failed-requires c κs = search needs
+slice-aggregate-begins-9 : tie.Need-slice-aggregate-begins-9
+slice-aggregate-begins-9 c = search needs
+
+begins-requires-9 : tie.Need-begins-requires-9
+begins-requires-9 c κs = search needs
+
+after-requires-9 : tie.Need-after-requires-9
+after-requires-9 c κs = search needs
+
+make-withdraw-requires : tie.Need-make-withdraw-requires
+make-withdraw-requires c κs = search needs
 
 returns-10 : tie.Need-returns-10
 returns-10 c =
-    let past = c .before in
+    let then = c .before .before in
+    let past = then .before .before .before in
     let a = entry9 past .args in
-    λ h k. c .failed .ensures .1 _ ∙ call-unknown (network (a .s)) (a .line .now) (not-start (past .before .before .before .before .before .before .before .before .before .before .before .before .before .before .before .before .before .before .before .before .before .before .before .before)) (not-bus (past .before .before .before .before .before .before .before .before .before .before .before .before .before .before .before .before .before .before .before .before .before)) (not-source (past .before .before .before .before .before .before .before .before .before .before .before .before .before .before .before .before .before .before)) (not-close (past .before .before .before .before .before .before .before .before .before .before .before .before .before .before .before)) (not-query (past .before .before .before .before .before .before .before .before .before .before .before .before)) (not-read (past .before .before .before .before .before .before .before .before .before)) (not-write (past .before .before .before .before .before .before)) (not-breaking (past .before .before .before)) (not-report (past))
+    let n = network (a .s) in
+    λ h k. c .make-withdraw .ensures _ ∙ ap (withdrawEffect n) (c .before .after9 .ensures) ∙ call-withdraw n (a .line .now) (not-start (past .before .before .before .before .before .before .before .before .before .before .before .before .before .before .before .before .before .before .before .before .before .before .before .before)) (not-bus (past .before .before .before .before .before .before .before .before .before .before .before .before .before .before .before .before .before .before .before .before .before)) (not-source (past .before .before .before .before .before .before .before .before .before .before .before .before .before .before .before .before .before .before)) (not-close (past .before .before .before .before .before .before .before .before .before .before .before .before .before .before .before)) (not-query (past .before .before .before .before .before .before .before .before .before .before .before .before)) (not-read (past .before .before .before .before .before .before .before .before .before)) (not-write (past .before .before .before .before .before .before)) (not-breaking (past .before .before .before)) (not-report (past)) (sym (then .before .begins9 .ensures) ∙ then .if10 .taken)
+
+slice-aggregate-begins-10 : tie.Need-slice-aggregate-begins-10
+slice-aggregate-begins-10 c = search needs
+
+begins-requires-10 : tie.Need-begins-requires-10
+begins-requires-10 c κs = search needs
+
+after-requires-10 : tie.Need-after-requires-10
+after-requires-10 c κs = search needs
+
+make-replace-requires : tie.Need-make-replace-requires
+make-replace-requires c κs = search needs
+
+returns-11 : tie.Need-returns-11
+returns-11 c =
+    let then = c .before .before in
+    let past = then .before .before .before in
+    let a = entry10 past .args in
+    let n = network (a .s) in
+    λ h k. c .make-replace .ensures _ ∙ ap (replaceEffect n) (c .before .after10 .ensures) ∙ call-replace n (a .line .now) (not-start (past .before .before .before .before .before .before .before .before .before .before .before .before .before .before .before .before .before .before .before .before .before .before .before .before .before .before .before)) (not-bus (past .before .before .before .before .before .before .before .before .before .before .before .before .before .before .before .before .before .before .before .before .before .before .before .before)) (not-source (past .before .before .before .before .before .before .before .before .before .before .before .before .before .before .before .before .before .before .before .before .before)) (not-close (past .before .before .before .before .before .before .before .before .before .before .before .before .before .before .before .before .before .before)) (not-query (past .before .before .before .before .before .before .before .before .before .before .before .before .before .before .before)) (not-read (past .before .before .before .before .before .before .before .before .before .before .before .before)) (not-write (past .before .before .before .before .before .before .before .before .before)) (not-breaking (past .before .before .before .before .before .before)) (not-report (past .before .before .before)) (not-withdraw (past)) (sym (then .before .begins10 .ensures) ∙ then .if11 .taken)
+
+slice-aggregate-is-2 : tie.Need-slice-aggregate-is-2
+slice-aggregate-is-2 c = search needs
+
+is-requires-2 : tie.Need-is-requires-2
+is-requires-2 c κs = search needs
+
+make-reopen-requires : tie.Need-make-reopen-requires
+make-reopen-requires c κs = search needs
+
+returns-12 : tie.Need-returns-12
+returns-12 c =
+    let then = c .before in
+    let past = then .before .before .before in
+    let a = entry11 past .args in
+    let n = network (a .s) in
+    λ h k. c .make-reopen .ensures _ ∙ call-reopen n (a .line .now) (not-start (past .before .before .before .before .before .before .before .before .before .before .before .before .before .before .before .before .before .before .before .before .before .before .before .before .before .before .before .before .before .before)) (not-bus (past .before .before .before .before .before .before .before .before .before .before .before .before .before .before .before .before .before .before .before .before .before .before .before .before .before .before .before)) (not-source (past .before .before .before .before .before .before .before .before .before .before .before .before .before .before .before .before .before .before .before .before .before .before .before .before)) (not-close (past .before .before .before .before .before .before .before .before .before .before .before .before .before .before .before .before .before .before .before .before .before)) (not-query (past .before .before .before .before .before .before .before .before .before .before .before .before .before .before .before .before .before .before)) (not-read (past .before .before .before .before .before .before .before .before .before .before .before .before .before .before .before)) (not-write (past .before .before .before .before .before .before .before .before .before .before .before .before)) (not-breaking (past .before .before .before .before .before .before .before .before .before)) (not-report (past .before .before .before .before .before .before)) (not-withdraw (past .before .before .before)) (not-replace (past)) (sym (then .before .is2 .ensures) ∙ then .if12 .taken)
+
+failed-requires : tie.Need-failed-requires
+failed-requires c κs = search needs
+
+returns-13 : tie.Need-returns-13
+returns-13 c =
+    let past = c .before in
+    let a = entry12 past .args in
+    λ h k. c .failed .ensures .1 _ ∙ call-unknown (network (a .s)) (a .line .now) (not-start (past .before .before .before .before .before .before .before .before .before .before .before .before .before .before .before .before .before .before .before .before .before .before .before .before .before .before .before .before .before .before .before .before .before)) (not-bus (past .before .before .before .before .before .before .before .before .before .before .before .before .before .before .before .before .before .before .before .before .before .before .before .before .before .before .before .before .before .before)) (not-source (past .before .before .before .before .before .before .before .before .before .before .before .before .before .before .before .before .before .before .before .before .before .before .before .before .before .before .before)) (not-close (past .before .before .before .before .before .before .before .before .before .before .before .before .before .before .before .before .before .before .before .before .before .before .before .before)) (not-query (past .before .before .before .before .before .before .before .before .before .before .before .before .before .before .before .before .before .before .before .before .before)) (not-read (past .before .before .before .before .before .before .before .before .before .before .before .before .before .before .before .before .before .before)) (not-write (past .before .before .before .before .before .before .before .before .before .before .before .before .before .before .before)) (not-breaking (past .before .before .before .before .before .before .before .before .before .before .before .before)) (not-report (past .before .before .before .before .before .before .before .before .before)) (not-withdraw (past .before .before .before .before .before .before)) (not-replace (past .before .before .before)) (not-reopen (past))
 
 pub make-call-spec : {M : Type 1} → statement M
 make-call-spec =
@@ -297,5 +372,19 @@ make-call-spec =
     after-requires-8
     make-report-requires
     returns-9
+    slice-aggregate-begins-9
+    begins-requires-9
+    after-requires-9
+    make-withdraw-requires
+    returns-10
+    slice-aggregate-begins-10
+    begins-requires-10
+    after-requires-10
+    make-replace-requires
+    returns-11
+    slice-aggregate-is-2
+    is-requires-2
+    make-reopen-requires
+    returns-12
     failed-requires
-    returns-10)
+    returns-13)
