@@ -31,3 +31,4 @@ pub mod Report
 pub mod NearPeaks
 pub mod Worked
 pub mod WorkedReport
+pub mod ChangeSentences

@@ -118,7 +118,7 @@ module _ (n : Network) (j : ℕ) where
     unfolding replaceNumber sourceRecordNumber
     replace-number-there e = rw e
 
-    replace-there : replaceNumber n j p ≡ 0 → placeOk n j ≡ true
+    pub replace-there : replaceNumber n j p ≡ 0 → placeOk n j ≡ true
     unfolding replaceNumber
     replace-there e = ground (replaceGrounds n j p) 34 refl e
 
