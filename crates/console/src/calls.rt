@@ -108,7 +108,7 @@ fn make_withdraw(s: Study, rest: &[u8]) -> Turn
     failed(s, reason_of(n))
 }
 
-// As many numbers as a place and a source record have.
+// Whether so many numbers are a place and a source record, of seven or twelve.
 fn replace_count_ok(count: usize) -> bool
     ensures { λ r. ⌜ r ≡ replaceCountOk count ⌝ }
 {

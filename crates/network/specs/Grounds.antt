@@ -161,7 +161,7 @@ unfoldable pub afterClose : Network → Network
 afterClose n = cond (eqb (closeNumber n) 0) (closedAs true n) n
 
 -- ---- withdrawing a source (document 02, order 8)
--- "34 when the place is 0 or holds nothing, tried before all other grounds."
+-- "34 when the place is 0 or holds nothing, tried before all other grounds."; "in open and closed studies alike"
 abbrev pub placeOk : Network → ℕ → Bool
 placeOk n j = ltb 0 j && ltb j (length (n .sources))
 
@@ -176,7 +176,7 @@ unfoldable pub afterWithdraw : Network → ℕ → Network
 afterWithdraw n j = cond (eqb (withdrawNumber n j) 0) (withoutSource n j) n
 
 -- ---- replacing a source
--- "checked like an addition except for 21 and 24": as the source at that place
+-- "checked like an addition except for 21 and 24": its record as the source at that place
 abbrev pub replaceGrounds : Network → ℕ → Source → List Ground
 replaceGrounds n j p = on (placeOk n j) 34 ∷ sourceGrounds (n .buses) j p
 
@@ -198,8 +198,8 @@ reopenNumber n = first (reopenGrounds n)
 unfoldable pub afterReopen : Network → Network
 afterReopen n = cond (eqb (reopenNumber n) 0) (closedAs false n) n
 
--- a call on a study: started with a tolerance, given a bus record or a source record, deprived of the source at a place, given another
--- record for it, closed, reopened, asked for a bus
+-- a call on a study: it is started with a tolerance, given a bus record or a source record, the source at a place is withdrawn or gets
+-- another record, it is closed, reopened, asked for a bus
 pub data Call : Type 0 where
   starting : ℕ → Call
   addingBus : Bus → Call

@@ -10,7 +10,7 @@ use Rattle.network.specs.Grounds.{startNumber, busNumber, sourceNumber, 
 use Rattle.network.specs.Grounds.Call.{starting, addingBus, addingSource, withdrawing, replacing, closing, reopening, querying}
 use Rattle.network.specs.Query.{queryNumber}
 
--- the number that a call carries: that of its ground, 0 where it is accepted
+-- the number that a call carries: that of its ground, 0 if it is accepted
 abbrev pub callNumber : Network → Call → ℕ
 callNumber n (starting t) = startNumber t
 callNumber n (addingBus b) = busNumber n b
@@ -49,6 +49,6 @@ abbrev pub plainFrom : List Source → List Answered → List Source
 plainFrom l [] = l
 plainFrom l (a ∷ more) = plainFrom (plainStep l a) more
 
--- of all calls, before which there is no source
+-- the plain list of all calls; before the first there is no source
 unfoldable pub plainRun : List Call → List Source
 plainRun cs = plainFrom [] (answeredFrom emptyNetwork cs)

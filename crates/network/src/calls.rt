@@ -1,5 +1,5 @@
-// The calls on a study: started with a voltage tolerance, given bus records and source records one by one, deprived of sources or given
-// others in their places, closed and reopened.
+// The calls on a study: it is started with a voltage tolerance, and bus and source records are added one by one; sources are withdrawn and
+// replaced by their places; it is closed and reopened.
 // Every call is total: it carries the number of the ground on which it was refused, 0 where it was accepted.
 ghost use mathlib.Core.Path.{_≡_};
 ghost use mathlib.Core.Bool.{true};
@@ -120,15 +120,15 @@ pub fn add_source(s: Study, p: Source) -> Answer
     }
 }
 
-// Ground 34: a place that holds a source and is not the first, by how many sources the study counts.
+// Ground 34: whether a place holds a source and is not the first, by how many sources a study counts.
 fn place_ok(count: usize, place: usize) -> bool
     ensures { λ r. ⌜ ((s : Study) → s .«source_count» ≡ count → length (s .sources) ≡ maxSources → r ≡ placeOk (network s) place) ⌝ }
 {
     (0 < place) & (place < clamped_sources(count))
 }
 
-// The study without the source at a place, which are counted from 0; those behind it move up by one. Refused: 34 where the place is 0 or
-// holds nothing.
+// The study without the source at a place; later sources move up one place. Refused: 34 if the place is 0 or holds nothing.
+// The record behind the last source stays in the array: it is counted no more, and the next addition writes over it.
 pub fn withdraw(s: Study, place: u32) -> Answer
     ensures number { λ r. ⌜ r .number ≡ withdrawNumber (network s) place ⌝ }
     ensures kept { λ r. ⌜ ((r .number ≡ 0 → ⊥) → r .study ≡ s) ⌝ }
@@ -158,7 +158,7 @@ pub fn withdraw(s: Study, place: u32) -> Answer
     }
 }
 
-// The study with another record for the source at a place. Refused: 34 where the place is 0 or holds nothing, 10 to 14 and 32 by the
+// The study with another record for the source at a place. Refused: 34 if the place is 0 or holds nothing, then 10 to 14 and 32 by the
 // record at that place.
 pub fn replace(s: Study, place: u32, p: Source) -> Answer
     ensures number { λ r. ⌜ r .number ≡ replaceNumber (network s) place p ⌝ }
@@ -217,7 +217,7 @@ pub fn close(s: Study) -> Answer
     }
 }
 
-// The study open again. Refused: 22 not closed.
+// The study open again, with all its records. Refused: 22 not closed.
 pub fn reopen(s: Study) -> Answer
     ensures number { λ r. ⌜ r .number ≡ reopenNumber (network s) ⌝ }
     ensures kept { λ r. ⌜ ((r .number ≡ 0 → ⊥) → r .study ≡ s) ⌝ }
