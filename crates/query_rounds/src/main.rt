@@ -1,9 +1,9 @@
 // A study of 128 buses as text on standard input, closed and queried for one bus again and again, the buses in turn; on standard output the
 // six figures of all queries, added up. tests/check-report times report_rounds against it.
 use bench::closings::closed_queries;
-use bench::closings::opened;
 use libc::STDIN_FILENO;
 use libc::STDOUT_FILENO;
+use network::calls::reopen;
 use printing::LINE;
 use printing::number_of;
 use printing::put_number;
@@ -22,7 +22,8 @@ fn main() {
     let mut text = [0u8; TEXT];
     let n = io::read_full(STDIN_FILENO, &mut text);
     let reading = reader::read(&text[..n]);
-    let study = opened(reading.study);
+    let opened = reopen(reading.study);
+    let study = opened.study;
     let total = closed_queries(study, LAST, ROUNDS);
     let mut line = [0u8; LINE];
     let end = put_number(&mut line, 0, number_of(total));

@@ -1,9 +1,9 @@
 // A study of 128 buses as text on standard input, closed and reported again and again; on standard output all numbers of all reports, added
 // up. tests/check-report times it against query_rounds.
 use bench::closings::closed_reports;
-use bench::closings::opened;
 use libc::STDIN_FILENO;
 use libc::STDOUT_FILENO;
+use network::calls::reopen;
 use network::report::ROW;
 use network::study::BUSES;
 use printing::LINE;
@@ -24,7 +24,8 @@ fn main() {
     let mut text = [0u8; TEXT];
     let n = io::read_full(STDIN_FILENO, &mut text);
     let reading = reader::read(&text[..n]);
-    let study = opened(reading.study);
+    let opened = reopen(reading.study);
+    let study = opened.study;
     let mut table = [0.0; TABLE];
     let total = closed_reports(study, &mut table, ROUNDS);
     let mut line = [0u8; LINE];
