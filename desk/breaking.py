@@ -13,8 +13,6 @@ from desk.trouble import Trouble
 DELAYS = ("20", "50", "100", "250")  # ms from the fault until a breaker opens, at the least; document 02, order 3
 ANSWER = re.compile(r"[0-9]{1,16}(?:,[0-9]{1,16})+")
 TASK = "give a breaking current"
-GROUNDS = {15: "there is no such bus", 22: "the study is not closed", 30: "the table lent is too short for the sources",
-           31: "there are no figures for the delay"}
 
 
 class Breaking(NamedTuple):
@@ -39,7 +37,7 @@ def breaking_in(said, kinds):
         raise console.no_answer(TASK, said)
     number, figure, *table = map(int, said.split(","))
     if number != 0:
-        raise console.refusal(TASK, number, GROUNDS)
+        raise console.refusal(TASK, number)
     bounds = tuple(zip(table[::2], table[1::2]))
     if figure < 1 or len(table) != 2 * len(kinds) or not all(map(are_bounds, bounds, kinds)):
         raise console.no_answer(TASK, said)

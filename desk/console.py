@@ -2,6 +2,7 @@
 from desk.program import CONSOLE, PROGRAM, output
 from desk.show import shown
 from desk.trouble import Trouble
+from desk.words import words_of
 
 ANEW = f"; where it is older than this folder, `rt check {CONSOLE.name}` builds it anew"
 
@@ -23,6 +24,6 @@ def no_answer(task, said):
     return Trouble(f"{CONSOLE} was to {task}, and answered {shown(said.encode())}" + (ANEW if said.startswith("error,") else ""))
 
 
-def refusal(task, number, grounds):
+def refusal(task, number):
     """The trouble with a call that was refused; no call on an accepted study should be."""
-    return Trouble(f"{CONSOLE} did not {task}: {grounds.get(number, 'a ground that is not known')} (ground {number})")
+    return Trouble(f"{CONSOLE} did not {task}: {words_of(number)} (ground {number})")

@@ -1,4 +1,4 @@
-"""The words of each ground, and the explanation of a refusal: what the program refused, at the row that it gave.
+"""The explanation of a refusal: what the program refused, at the row that it gave.
 
 Nothing is refused here. Where no reason is found the explanation says so; the program's answer stands all the same.
 """
@@ -10,28 +10,8 @@ from desk.mend import mended
 from desk.plan.entries import quoted
 from desk.records import MOST_BYTES, listed, named, rows_of
 from desk.show import picture
+from desk.words import words_of
 
-GROUNDS = {
-    1: "the tolerance is not 6 or 10",
-    2: "the nominal voltage is out of range",
-    3: "the parent is not a bus with a smaller number (bus 0 has parent 0)",
-    4: "the branch kind is not 1 for a line or 2 for a transformer (bus 0 has kind 0)",
-    5: "a branch field is out of range, is not used and not 0, or r and x are both 0",
-    6: "a line joins two different nominal voltages",
-    7: "a rated voltage of the transformer is not within 9/10 to 11/10 of its bus's nominal voltage",
-    8: "the bus is too deep: too many branches, or too many transformers, lead to it from bus 0",
-    9: "a rating is out of range",
-    10: "the source kind is not 1 to 5",
-    11: "there is no such bus for the source",
-    12: "a source field is out of range, or is not used and not 0",
-    13: "the rated voltage of the machine, of a power station unit on its high side, is not within 9/10 to 11/10 of its bus's nominal voltage",
-    14: "the first source is not a feeder, a feeder is elsewhere than at bus 0, or it is a second one",
-    16: "the text breaks the form of a study file",
-    23: "the bus table is full",
-    24: "the source table is full",
-    25: "the study has no source",
-    32: "the rated voltage of the power station unit's generator is not within 9/10 to 11/10 of its transformer's on the low side",
-}
 NO_CAUSE = "What is wrong there this command cannot tell; the program's answer stands."
 
 
@@ -92,7 +72,7 @@ def explanation(text, number, row, names=()):
     rows = rows_of(text)
     content = rows[row - 1] if 0 < row <= len(rows) else b""
     marks = tuple(place for one in found for place in one.places)
-    reason = GROUNDS.get(number, "a ground that this command does not know")
+    reason = words_of(number)
     sentences = [capital(one.words) for one in found] or [NO_CAUSE]
     if number == 16:
         sentences += hint(text, row, found)

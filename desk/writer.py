@@ -13,7 +13,6 @@ ROOM = MOST_BYTES  # the bytes that are lent to the writer; no text of a closed 
 LENT = b"\x55"     # what the console fills them with before the call
 ANSWER = re.compile(r"([0-9]{1,10}),([0-9]{1,10}),((?:[0-9a-f]{2})*)")
 TASK = "write the study"
-GROUNDS = {22: "the study is not closed", 30: "the text is longer than the room for it"}
 
 
 def text_in(said):
@@ -23,7 +22,7 @@ def text_in(said):
         raise console.no_answer(TASK, said)
     number, length, lent = int(found[1]), int(found[2]), bytes.fromhex(found[3])
     if number != 0:
-        raise console.refusal(TASK, number, GROUNDS)
+        raise console.refusal(TASK, number)
     if len(lent) != ROOM or not 0 < length <= ROOM:
         raise Trouble(f"{console.CONSOLE} was lent {ROOM:,} bytes for the study, and gave {length:,} of {len(lent):,}")
     if lent[length:].strip(LENT):
