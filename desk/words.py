@@ -18,7 +18,7 @@ GROUNDS = {
     15: "there is no such bus",
     16: "the text breaks the form of a study file",
     21: "the study is closed already",
-    22: "the study is not closed yet",
+    22: "the study is not closed",
     23: "the bus table is full",
     24: "the source table is full",
     25: "the study has no source",
@@ -26,7 +26,7 @@ GROUNDS = {
     31: "the minimum delay of a breaking current is not 20, 50, 100 or 250 ms",
     32: "the rated voltage of the power station unit's generator is not within 9/10 to 11/10 of its transformer's on the low side",
     33: "the table lent for a report is shorter than six times the buses",
-    34: "no source stands at the place of a withdrawal or a replacement, or the place is 0",
+    34: "no source stands at the place that is to be withdrawn or replaced, or the place is 0, the feeder's",
 }
 
 
