@@ -329,9 +329,8 @@ def asked(course):
     if rng.random() < 0.8:
         course.close()
     buses = len(course.study.buses)
-    calls = [("query", rng.randrange(buses + 1)), ("report", any_room(rng, buses))]
-    calls += [any_breaking(rng, buses, course.last + 1), ("other", rng.choice(NO_CALLS))]
-    course.add(rng.choice(calls), look(course))
+    course.add(("query", rng.randrange(buses + 1)), ("report", any_room(rng, buses)))
+    course.add(any_breaking(rng, buses, course.last + 1), ("other", rng.choice(NO_CALLS)), look(course))
 
 
 def look(course):
@@ -341,7 +340,7 @@ def look(course):
 
 STEPS = [withdrawal, replacement, exchange, faulty_replacement, addition, new_bus, all_but_feeder]
 STEPS += [after_refusal, other_state, asked]
-WEIGHTS = [5, 4, 4, 6, 5, 2, 1, 2, 3, 2]
+WEIGHTS = [5, 4, 4, 6, 5, 2, 1, 2, 3, 5]
 
 
 def freed_space(course):
@@ -370,8 +369,8 @@ def drawn_network(course, draft):
         return
     course.add(("start", draft.tolerance))
     for call in as_calls(rows):
-        if course.study.buses and course.rng.random() < 1 / len(rows):
-            course.rng.choice([withdrawal, replacement])(course)
+        if course.rng.random() < 1 / len(rows):
+            (replacement if course.study.buses else withdrawal)(course)
         course.add(call)
 
 
