@@ -90,7 +90,7 @@ class Study:
         return 0, self.with_sources(self.sources[:place] + self.sources[place + 1 :])
 
     def replace(self, place, fields):
-        """Tried as an addition is, save the grounds in the state."""
+        """Tried as an addition behind the feeder, save the grounds in the state."""
         record = SourceRecord(*fields)
         if self.nothing_to_change(place):
             return NO_PLACE, self

@@ -320,6 +320,7 @@ def other_lines():
 def at_once():
     """Calls before any start: an empty open study of tolerance 6."""
     tries = [("query", 0), ("write", 0), ("write", 100), ("report", 0), ("report", 6)]
+    tries += [("reopen",), ("withdraw", 0), ("withdraw", 1), ("replace", 0, BASE[1][1])]
     return [*tries, ("close",), *BUILD_LOW, ("report", 6)]
 
 

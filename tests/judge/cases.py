@@ -1,7 +1,8 @@
 """Cases and units of work: what is asked of a program, and how its answers are gone through.
 
-A case is one test.  A unit is a list of cases that share a console process and
-a Checker, so that networks alike in all but their converters meet in one unit.
+A case is one test, and a second one by the plain list of sources where something
+is written in it.  A unit is a list of cases that share a console process and a
+Checker, so that networks alike in all but their converters meet in one unit.
 """
 
 from random import Random
@@ -180,8 +181,9 @@ def report_cases(plans):
 
 
 def change_unit():
-    """Order 8: lists of calls."""
-    return Unit([Case(f"calls: {make.__name__}", make()) for make in CHANGED])
+    """Order 8: lists of calls, one of them a second time with lines ended by CRLF."""
+    lists = [Case(f"calls: {make.__name__}", make()) for make in CHANGED]
+    return Unit([*lists, lists[-1]._replace(name=lists[-1].name + ", lines ended by CRLF", ending="\r")])
 
 
 # How many of a kind are drawn for one unit of work

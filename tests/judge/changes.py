@@ -17,9 +17,9 @@ from texts import SMALL, TEXT
 from unit_networks import add_units, some_filled
 from writes import KEEPS, drawn_rooms, writing
 
-# Room for the text of any small study, and what it shows
+# Room for the text of any small study
 LOOK = ("write", 1_500)
-FAULTY = FAULTY_SOURCE[1]
+FAULTY, FAULTY_CALL = FAULTY_SOURCE[1], ("bus", FAULTY_BUS[1])
 
 
 def converter(tenths, bus=0):
@@ -149,8 +149,6 @@ def changed_after_refusals():
         found += [("read", text), *changes, LOOK]
     return found
 
-
-FAULTY_CALL = ("bus", FAULTY_BUS[1])
 
 CHANGED = [
     changed_lines,

@@ -172,8 +172,8 @@ class Checker:
         return study, "" if answer == due else f"{answer!r} where {due!r} is due"
 
     def note_change(self, name, number, study):
-        """Counts the call, and what a withdrawal means for additions: where the table has been full
-        since the last start, an accepted one goes into freed space.  The study is that after it."""
+        """Counts the call, `study` being the one after it.  Where the table has been full since the
+        last start, an accepted addition of a source goes into space that a withdrawal freed."""
         self.tally.changes[name, number] += 1
         if name not in ("bus", "source", "withdraw", "replace", "close", "reopen"):
             self.withdrawn = self.full = False
