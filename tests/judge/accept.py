@@ -1,9 +1,9 @@
 """Which calls and which files are accepted, with number and row; a study as text.
 
 Written from document 01 alone ("The study", "The file" and the two lists of
-grounds) and from orders 1 to 3, 5 and 7 of document 02.  A Study is never changed:
-each call gives its number and the study after it, so that a refused call gives
-back the study it was made on.
+grounds) and from orders 1 to 3, 5, 7 and 8 of document 02.  A Study is never
+changed: each call gives its number and the study after it, so that a refused call
+gives back the study it was made on.
 """
 
 from exact import (
@@ -27,7 +27,7 @@ TEXT_BYTES = 65536
 # How many numbers a row may have; a source's seven stand for twelve
 COUNTS = {b"S": (1,), b"B": (10,), b"P": (7, 12)}
 FORM = 16
-NOT_CLOSED, TOO_SHORT, NO_DELAY, SHORT_REPORT = 22, 30, 31, 33
+NOT_CLOSED, TOO_SHORT, NO_DELAY, SHORT_REPORT, NO_PLACE = 22, 30, 31, 33, 34
 DELAYS = 20, 50, 100, 250
 # How many amperes a report has for each bus
 ROW = 6
@@ -82,6 +82,34 @@ class Study:
         if number:
             return number, self
         return 0, type(self)(self.tolerance, self.buses, self.sources, True)
+
+    def withdraw(self, place):
+        """Open or closed, the study stays so."""
+        if self.nothing_to_change(place):
+            return NO_PLACE, self
+        return 0, self.with_sources(self.sources[:place] + self.sources[place + 1 :])
+
+    def replace(self, place, fields):
+        """Tried as an addition behind the feeder, save the grounds in the state."""
+        record = SourceRecord(*fields)
+        if self.nothing_to_change(place):
+            return NO_PLACE, self
+        number = first_true(self.source_grounds(record))
+        if number:
+            return number, self
+        return 0, self.with_sources(self.sources[:place] + (record,) + self.sources[place + 1 :])
+
+    def nothing_to_change(self, place):
+        """The feeder at place 0 is neither withdrawn nor replaced."""
+        return place == 0 or place >= len(self.sources)
+
+    def with_sources(self, sources):
+        return type(self)(self.tolerance, self.buses, sources, self.closed)
+
+    def reopen(self):
+        if not self.closed:
+            return NOT_CLOSED, self
+        return 0, type(self)(self.tolerance, self.buses, self.sources)
 
     def query(self, bus):
         """The number alone; the amperes of an accepted query are judged elsewhere."""

@@ -1,7 +1,8 @@
 """Lists of single calls, fixed and drawn, with refused ones among them.
 
 A call is a tuple: ("start", tolerance), ("bus", ten numbers), ("source", seven
-or twelve numbers), ("close",), ("query", bus), ("breaking", bus, delay, room),
+or twelve numbers), ("withdraw", place), ("replace", place, the numbers of a
+source), ("close",), ("reopen",), ("query", bus), ("breaking", bus, delay, room),
 ("report", room), ("write", room), ("read", bytes), ("read capitals", bytes), the
 same in capital digits, or ("other", line) for a line that is no call at all.
 """
@@ -93,6 +94,53 @@ NO_CALLS = [
     "REPORT,6",
     "reports,6",
     "repor,6",
+    "withdraw",
+    "withdraw,",
+    "withdraw,x",
+    "withdraw,-1",
+    "withdraw,+1",
+    "withdraw,01",
+    "withdraw,1 ",
+    "withdraw, 1",
+    "withdraw,1,",
+    "withdraw,,1",
+    "withdraw,1,1",
+    "withdraw,4,0,1000,150,0,0,0",
+    "withdraw,4294967296",
+    "withdraw,4294967297",
+    "Withdraw,1",
+    "WITHDRAW,1",
+    "withdraws,1",
+    "withdra,1",
+    "replace",
+    "replace,",
+    "replace,1",
+    "replace,1,",
+    "replace,4,0,1000,150,0,0,0",
+    "replace,1,4,0,1000,150,0,0,",
+    "replace,1,4,0,1000,150,0,0,x",
+    "replace,x,4,0,1000,150,0,0,0",
+    "replace,,4,0,1000,150,0,0,0",
+    "replace,01,4,0,1000,150,0,0,0",
+    "replace,1,4,0,01000,150,0,0,0",
+    "replace,4294967297,4,0,1000,150,0,0,0",
+    "replace,1,4,0,4294968296,150,0,0,0",
+    *["replace,1,4,0,1000,150" + ",0" * more for more in (2, 4, 5, 6, 7, 9, 10, 30)],
+    "replace,1,5,0,400,100,20000,10,80,400,400,100,6000",
+    "replace,1,5,0,400,100,20000,10,80,400,400,100,6000,600,0",
+    "Replace,1,4,0,1000,150,0,0,0",
+    "REPLACE,1,4,0,1000,150,0,0,0",
+    "replaces,1,4,0,1000,150,0,0,0",
+    "replac,1,4,0,1000,150,0,0,0",
+    "reopen,",
+    "reopen,1",
+    "reopen,0",
+    "reopen ",
+    " reopen",
+    "Reopen",
+    "REOPEN",
+    "reopens",
+    "reope",
     "read",
     "read,0",
     "read,0g",
@@ -113,6 +161,11 @@ NO_CALLS = [
     "breaking;0,20,10",
     "report;6",
     "report 6",
+    "withdraw;1",
+    "withdraw 1",
+    "replace;1,4,0,1000,150,0,0,0",
+    "replace 1,4,0,1000,150,0,0,0",
+    "reopen;",
     "write;5",
     "read;" + SMALL.hex(),
     # the bytes beside 0 to 9, A to F and a to f, in either place of a pair
@@ -146,8 +199,8 @@ def line_of(call):
         return "read," + rest[0].hex()
     if name == "read capitals":
         return "read," + rest[0].hex().upper()
-    if name in ("bus", "source"):
-        rest = rest[0]
+    if name in ("bus", "source", "replace"):
+        rest = *rest[:-1], *rest[-1]
     return ",".join([name, *map(str, rest)])
 
 
@@ -158,7 +211,10 @@ def carried_out(study, call):
         "start": study.start,
         "bus": study.add_bus,
         "source": study.add_source,
+        "withdraw": study.withdraw,
+        "replace": study.replace,
         "close": study.close,
+        "reopen": study.reopen,
         "read": study.read,
         "read capitals": study.read,
     }
@@ -264,6 +320,7 @@ def other_lines():
 def at_once():
     """Calls before any start: an empty open study of tolerance 6."""
     tries = [("query", 0), ("write", 0), ("write", 100), ("report", 0), ("report", 6)]
+    tries += [("reopen",), ("withdraw", 0), ("withdraw", 1), ("replace", 0, BASE[1][1])]
     return [*tries, ("close",), *BUILD_LOW, ("report", 6)]
 
 

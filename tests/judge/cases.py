@@ -1,7 +1,8 @@
 """Cases and units of work: what is asked of a program, and how its answers are gone through.
 
-A case is one test.  A unit is a list of cases that share a console process and
-a Checker, so that networks alike in all but their converters meet in one unit.
+A case is one test, and a second one by the plain list of sources where something
+is written in it.  A unit is a list of cases that share a console process and a
+Checker, so that networks alike in all but their converters meet in one unit.
 """
 
 from random import Random
@@ -11,11 +12,13 @@ from accept import ROW, Study
 from breakings import BROKEN, breaking_calls, breakings, drawn_breakings, fixed_breakings
 from breakings import low_breakings
 from calls import FIXED, as_calls, at_once, drawn_calls, line_of, queries, states
+from changes import CHANGED, drawn_changes
 from check import Checker
 from fixed import fixed_networks
 from judge import Amperes
 from networks import any_network, border_ratings, with_more_converters, with_ratings
 from networks import without_converters, write_file
+from plain_list import told_from_plain_list
 from reactance_networks import fixed_reactance_networks, low_impedances
 from refusals import near_misses
 from reports import REPORTED, buses_of, drawn_reports, fixed_reports, report_plans
@@ -26,6 +29,8 @@ from writes import study_after, text_of, told_apart
 
 # The console takes lines of at most so many bytes; a longer text goes to the program alone.
 LINE_BYTES = 140_000
+
+OF_PLAIN_LIST = ", the written sources are those of the plain list"
 
 
 class Case(NamedTuple):
@@ -140,7 +145,7 @@ def fixed_units():
         small = len(draft.buses) <= 3 and not name.startswith("feeder")
         plans.append(network_plan(name, draft, i, 21 if small else 1, i % 4 == 0 or small))
     units += [Unit([], part) for part in chunks(plans, 8)]
-    return units + reactance_units() + report_units()
+    return units + reactance_units() + report_units() + [change_unit()]
 
 
 def reactance_units():
@@ -175,10 +180,16 @@ def report_cases(plans):
     return [Case(plan.name, plan.calls, plan.text) for plan in plans]
 
 
+def change_unit():
+    """Order 8: lists of calls, one of them a second time with lines ended by CRLF."""
+    lists = [Case(f"calls: {make.__name__}", make()) for make in CHANGED]
+    return Unit([*lists, lists[-1]._replace(name=lists[-1].name + ", lines ended by CRLF", ending="\r")])
+
+
 # How many of a kind are drawn for one unit of work
 DRAWN_TOGETHER = {
     "networks": 8, "bytes": 100, "calls": 20, "writes": 20, "breakings": 10, "units": 8, "reactances": 8,
-    "reports": 8,
+    "reports": 8, "changes": 20,
 }
 
 
@@ -203,6 +214,8 @@ def drawn_unit(kind, seed, places):
         return Unit([case for name, _, rng in draws for case in report_cases(drawn_reports(name, rng))])
     if kind == "writes":
         return Unit([], writings=[drawn_writing(name, rng) for name, _, rng in draws])
+    if kind == "changes":
+        return Unit([], writings=[drawn_changes(name, rng) for name, _, rng in draws])
     if kind == "units":
         return with_calls([drawn_unit_plan(name, rng) for name, _, rng in draws])
     if kind == "reactances":
@@ -348,17 +361,26 @@ def back_case(plan, case, answers):
 
 
 def note_case(case, answers, outcome):
+    """Each answer for itself, and where something was written, its sources beside the plain list."""
     fault = outcome.checker.first_fault(case.calls, answers)
     asked, given = len(case.calls), len(answers)
     if fault is None and asked != given:
         fault = min(asked, given), f"{given} answers to {asked} calls"
+    note_fault(case.name, case, answers, fault, outcome)
+    shown, fault = told_from_plain_list(case.calls, answers)
+    if shown:
+        note_fault(case.name + OF_PLAIN_LIST, case, answers, fault, outcome)
+        outcome.tally.plain_lists += shown - bool(fault)
+
+
+def note_fault(name, case, answers, fault, outcome):
     if fault is None:
-        outcome.note(case.name, "", "")
+        outcome.note(name, "", "")
         return
     place, reason = fault
-    line = line_of(case.calls[min(place, asked - 1)])
+    line = line_of(case.calls[min(place, len(case.calls) - 1)])
     reason = f"call {place + 1} ({line[:60]}{'...' if len(line) > 60 else ''}): {reason}"
-    outcome.note(case.name, reason, show_case(case, answers, place))
+    outcome.note(name, reason, show_case(case, answers, place))
 
 
 def given_amperes(case, answers):

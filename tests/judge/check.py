@@ -28,6 +28,9 @@ class Tally:
         self.shares = 0
         self.reports = Counter()
         self.rows = 0
+        self.changes = Counter()
+        self.space = Counter()
+        self.plain_lists = 0
         self.worst = {}
 
     def note(self, figure, value):
@@ -62,6 +65,9 @@ class Tally:
         self.shares += other.shares
         self.reports += other.reports
         self.rows += other.rows
+        self.changes += other.changes
+        self.space += other.space
+        self.plain_lists += other.plain_lists
         for figure, value in other.worst.items():
             self.note(figure, value)
 
@@ -127,6 +133,7 @@ class Checker:
         self.reported = {}
         self.judged = None, None
         self.broken = None, {}
+        self.withdrawn = self.full = False
 
     def judges(self, study):
         if self.judged[0] is not study:
@@ -160,8 +167,22 @@ class Checker:
         given, study = carried_out(study, call)
         if given[0]:
             self.tally.refused[given[0]] += 1
+        self.note_change(name, given[0], study)
         due = ",".join(map(str, given))
         return study, "" if answer == due else f"{answer!r} where {due!r} is due"
+
+    def note_change(self, name, number, study):
+        """Counts the call, `study` being the one after it.  Where the table has been full since the
+        last start, an accepted addition of a source goes into space that a withdrawal freed."""
+        self.tally.changes[name, number] += 1
+        if name not in ("bus", "source", "withdraw", "replace", "close", "reopen"):
+            self.withdrawn = self.full = False
+        if name == "source" and number == 24 and self.withdrawn:
+            self.tally.space["refused with 24"] += 1
+        if name == "source" and number == 0 and self.full:
+            self.tally.space["into freed space"] += 1
+        self.withdrawn |= (name, number) == ("withdraw", 0)
+        self.full |= len(study.sources) == study.most_sources
 
     def write_reason(self, study, room, answer):
         """The answer shows the whole lent room, so that a byte changed beyond the text is seen."""

@@ -7,7 +7,7 @@ It serves to test run.py.  Bounds are the whole numbers next to the exact
 parts and shares, peaks come from sixteen steps between the entries of the peak
 table, a breaking figure is the least whole number not below its sum; a row of a
 report is what a query gives.  --fault plants one of faults.py, breaking_faults.py,
-unit_faults.py, reactance_faults.py or report_faults.py.
+unit_faults.py, reactance_faults.py, report_faults.py or change_faults.py.
 """
 
 import argparse
@@ -17,14 +17,15 @@ from math import isqrt
 
 from accept import ROW, Study
 from breaking import BreakingJudge
-from calls import FILL, MOST_REPORT, MOST_ROOM, MOST_TABLE, TABLE_FILL
+from calls import FILL, MOST_REPORT, MOST_ROOM, MOST_TABLE, TABLE_FILL, carried_out
 from exact import Network, peak_thousandths
 from judge import NO_AMPERES, Amperes, Bench, verdict
 from shares import RootSum, Shares
 
-CALL = re.compile(r"(start|bus|source|close|query|breaking|report|write)((?:,(?:0|[1-9][0-9]{0,9}))*)")
 COUNTS = {"start": [1], "bus": [10], "source": [7, 12], "close": [0], "query": [1]}
 COUNTS |= {"breaking": [3], "report": [1], "write": [1]}
+COUNTS |= {"withdraw": [1], "replace": [8, 13], "reopen": [0]}
+CALL = re.compile(rf"({'|'.join(COUNTS)})((?:,(?:0|[1-9][0-9]{{0,9}}))*)")
 READ = re.compile(r"read,((?:[0-9a-fA-F]{2})*)")
 TABLE = [peak_thousandths(i) for i in range(231)]
 
@@ -179,15 +180,16 @@ class StandIn:
             return self.answer_report(*numbers)
         if name == "write":
             return self.answer_write(*numbers)
-        if name == "close":
-            number, self.study = self.study.close()
-        elif name == "start":
-            number, self.study = self.study.start(*numbers)
-        elif name == "bus":
-            number, self.study = self.study.add_bus(numbers)
-        else:
-            number, self.study = self.study.add_source(numbers)
-        return str(number)
+        return str(self.change(name, numbers))
+
+    def change(self, name, numbers):
+        """The number of a call that may change the study."""
+        if name in ("bus", "source"):
+            numbers = [numbers]
+        elif name == "replace":
+            numbers = [numbers[0], numbers[1:]]
+        (number,), self.study = carried_out(self.study, (name, *numbers))
+        return number
 
     def answer_query(self, b):
         number = self.study.query(b)
@@ -237,13 +239,14 @@ class InProcess:
 
 def main():
     from breaking_faults import BREAKING_FAULTS
+    from change_faults import CHANGE_FAULTS
     from faults import FAULTS
     from reactance_faults import REACTANCE_BREAKING_FAULTS, REACTANCE_FAULTS
     from report_faults import REPORT_FAULTS
     from unit_faults import UNIT_BREAKING_FAULTS, UNIT_FAULTS
 
     faults = FAULTS | BREAKING_FAULTS | UNIT_FAULTS | UNIT_BREAKING_FAULTS
-    faults |= REACTANCE_FAULTS | REACTANCE_BREAKING_FAULTS | REPORT_FAULTS
+    faults |= REACTANCE_FAULTS | REACTANCE_BREAKING_FAULTS | REPORT_FAULTS | CHANGE_FAULTS
     parser = argparse.ArgumentParser(description=__doc__.splitlines()[0])
     parser.add_argument("role", choices=["program", "console"])
     parser.add_argument("--fault", choices=sorted(faults))

@@ -2,13 +2,14 @@
 
 python3 tests/judge/run.py --program target/bin/noldveig --console target/bin/console
     --seed 1 --networks 200 --bytes 500 --calls 100 --writes 100 --breakings 100 --units 100
-    --reactances 100 --reports 100
+    --reactances 100 --reports 100 --changes 100
 
 The fixed set always runs; the seed adds drawn networks, broken texts, lists of
 calls, studies that are written, read back and written again, networks asked for
 breaking currents, networks with power station units, networks whose transformers
-have a low impedance, and networks asked by reports.  Give an empty --program or
---console to leave that one out.
+have a low impedance, networks asked by reports, and lists of calls that withdraw
+and replace sources and reopen studies.  Give an empty --program or --console to
+leave that one out.
 """
 
 import argparse
@@ -103,6 +104,7 @@ def summary(tally):
     print(f"writes by number: {by_number(tally.writes)}; read back and the same: {tally.read_back}")
     print(f"breakings by number: {by_number(tally.breakings)}; shares judged: {tally.shares}")
     print(f"reports by number: {by_number(tally.reports)}; rows judged: {tally.rows}")
+    summary_of_changes(tally)
     for figure, meaning in (
         ("width", "widest pair against its allowance of 2 A and a thousandth"),
         ("peak", "peak farthest above the least whole one, against 2 % and 4 A"),
@@ -115,6 +117,23 @@ def summary(tally):
     ):
         if figure in tally.worst:
             print(f"{meaning}: {tally.worst[figure]:.3f}")
+
+
+def summary_of_changes(tally):
+    """By the numbers that are due for each call, and not by the program's answers."""
+    for call, words in (
+        ("withdraw", "withdrawals"),
+        ("replace", "replacements"),
+        ("reopen", "reopenings"),
+        ("close", "closings"),
+        ("bus", "additions of buses"),
+        ("source", "additions of sources"),
+    ):
+        numbers = {number: count for (name, number), count in tally.changes.items() if name == call}
+        print(f"{words} by number: {by_number(numbers)}")
+    space = ", ".join(f"{words} {count}" for words, count in sorted(tally.space.items()))
+    print(f"additions of sources behind a withdrawal: {space}")
+    print(f"writes whose sources are those of the plain list: {tally.plain_lists}")
 
 
 def show(failure, count):
@@ -138,6 +157,7 @@ def main(arguments=None):
     parser.add_argument("--units", type=int, default=60)
     parser.add_argument("--reactances", type=int, default=60)
     parser.add_argument("--reports", type=int, default=60)
+    parser.add_argument("--changes", type=int, default=60)
     parser.add_argument("--jobs", type=int, default=1)
     options = parser.parse_args(arguments)
     for command in (options.program, options.console):

@@ -3,8 +3,8 @@
 Document 01's worked points, the sweeps against the plain definitions, the
 acceptance rules against meant numbers and against those of the edition before,
 a study's text against one typed by hand, and planted faults that the fixed set
-has to find; the same for breaking currents and for reports.  Nothing of the
-product is run.
+has to find; the same for breaking currents, for reports and for lists that
+change the sources.  Nothing of the product is run.
 """
 
 import sys
@@ -14,17 +14,20 @@ from fractions import Fraction
 from math import factorial, isqrt
 from random import Random
 
-from accept import BUSES_BEFORE, DELAYS, ROW, SOURCES_BEFORE, Study, StudyBefore
+from accept import BUSES_BEFORE, DELAYS, NO_PLACE, ROW, SOURCES, SOURCES_BEFORE
+from accept import Study, StudyBefore, first_true
 from breaking import BreakingJudge
 from breaking_faults import BREAKING_FAULTS
 from breakings import BROKEN, drawn_breakings, every_tenth, fixed_breakings, low_breakings, tuned
 from calls import MOST_REPORT, TABLE_FILL, as_calls, carried_out, drawn_calls, line_of
-from cases import Unit, breaking_case, breaking_units, drawn_unit, fixed_units, reactance_units
-from cases import report_cases, report_units, run_unit
+from cases import OF_PLAIN_LIST, Unit, breaking_case, breaking_units, change_unit, drawn_unit
+from cases import fixed_units, reactance_units, report_cases, report_units, run_unit
+from change_faults import CHANGE_FAULTS
+from changes import CHANGED, converter, drawn_course
 from check import Checker
 from confirm import Printed, confirmed
 from exact import CONVERTER, GENERATOR, TRANSFORMER, UNIT
-from exact import Network, f_millionths, peak_thousandths, series, sine, transformer_ux
+from exact import Network, SourceRecord, f_millionths, peak_thousandths, series, sine, transformer_ux
 from faults import FAULTS
 from fixed import fixed_networks, table_steps, worked_points
 from judge import Amperes, Bench, peak_reasons, verdict
@@ -32,10 +35,11 @@ from networks import FAMILIES, any_network, crowd, full_tree, random_tree, rated
 from networks import without_converters, write_file
 from plain import PlainNetwork, table_factor
 from plain import ux as plain_ux
+from plain_list import told_from_plain_list
 from reactance_faults import REACTANCE_BREAKING_FAULTS, REACTANCE_FAULTS, ThousandthsAgain
 from reactance_networks import fixed_reactance_networks, low_impedances
 from reference import InProcess, StandIn
-from refusals import BASE, chain_rows, filled, lone_bus, near_misses
+from refusals import BASE, GREATEST, chain_rows, filled, lone_bus, near_misses
 from report_faults import REPORT_FAULTS
 from reports import REPORTED, drawn_reports, fixed_reports, report_plans
 from run import Commands
@@ -482,18 +486,16 @@ def answers_told_apart(tests):
 
 
 def refused_calls(tests):
-    """A refused addition or closing gives back the very study it was made on."""
+    """A refused call, starting and reading apart, gives back the very study it was made on."""
     for n in range(20):
         study = Study()
-        for call in drawn_calls(Random(n)):
-            name, *rest = call
-            if name not in ("bus", "source", "close"):
+        for call in drawn_calls(Random(n)) + drawn_course(Random(n)).calls:
+            if call[0] in KEEPS or call[0].startswith(("start", "read")):
                 continue
             before = study
-            methods = {"bus": study.add_bus, "source": study.add_source, "close": study.close}
-            number, study = methods[name](*rest)
+            (number,), study = carried_out(study, call)
             if number and study is not before:
-                tests.true(f"refused {name} leaves the study", False)
+                tests.true(f"refused {call[0]} leaves the study", False)
     tests.true("refused calls leave the study", True)
 
 
@@ -1010,6 +1012,173 @@ def drawn_reports_find(tests):
         tests.true(f"drawn reports find: {name}", outcome.failures)
 
 
+# Order 8
+
+
+def worked_changes(tests):
+    """Order 8's words by hand: each call, its number, the first fields behind the feeder's and
+    whether the study is closed then."""
+    rows = [*lone_bus(20000), ("P", converter(11)), ("P", converter(22)), ("P", converter(33))]
+    study = study_after([("start", 6), *as_calls(rows)])
+    line = 0, 20000, 1, 100, 300, 1000, 2, 0, 15000, 60000
+    for call, *due in (
+        (("reopen",), 22, [11, 22, 33], False),
+        (("withdraw", 0), 34, [11, 22, 33], False),
+        (("withdraw", 4), 34, [11, 22, 33], False),
+        (("withdraw", 2), 0, [11, 33], False),
+        (("source", converter(44)), 0, [11, 33, 44], False),
+        (("replace", 1, converter(55)), 0, [55, 33, 44], False),
+        (("close",), 0, [55, 33, 44], True),
+        (("source", converter(66)), 21, [55, 33, 44], True),
+        (("withdraw", 3), 0, [55, 33], True),
+        (("withdraw", 3), 34, [55, 33], True),
+        (("replace", 3, (9,) * 7), 34, [55, 33], True),
+        (("replace", 0, rows[1][1]), 34, [55, 33], True),
+        (("replace", 2, (9,) * 7), 10, [55, 33], True),
+        (("replace", 2, converter(77, 1)), 11, [55, 33], True),
+        (("replace", 2, converter(0)), 12, [55, 33], True),
+        (("replace", 2, (3, 0, 400, 1, 50, 0, 0)), 13, [55, 33], True),
+        (("replace", 2, (5, 0, 1, 10, 1000, 0, 70, 90, 20000, 10, 100, 0)), 32, [55, 33], True),
+        (("replace", 2, rows[1][1]), 14, [55, 33], True),
+        (("replace", 2, converter(77)), 0, [55, 77], True),
+        (("reopen",), 0, [55, 77], False),
+        (("replace", 1, converter(88, 1)), 11, [55, 77], False),
+        (("bus", line), 0, [55, 77], False),
+        (("replace", 1, converter(88, 1)), 0, [88, 77], False),
+        (("withdraw", 1), 0, [77], False),
+        (("withdraw", 1), 0, [], False),
+        (("withdraw", 1), 34, [], False),
+        (("close",), 0, [], True),
+    ):
+        (number,), study = carried_out(study, call)
+        given = [number, [source.first for source in study.sources[1:]], study.closed]
+        tests.same(f"order 8: {call}", given, due)
+
+
+def plain_list_by_hand(tests):
+    """The plain list goes by the answers, right or not; what is written has to be just that list."""
+    calls = [("start", 6), ("source", converter(1)), ("source", converter(2)), ("source", converter(3))]
+    calls += [("withdraw", 1), ("replace", 0, converter(4)), ("replace", 9, converter(5)), ("write", 200)]
+    answers = ["0", "0", "0", "0", "0", "0", "0"]
+    for place, answer, left in (
+        (0, "0", (4, 3)),
+        (0, "1", (4, 3)),
+        (1, "14", (4,)),
+        (3, "24", (4,)),
+        (4, "34", (4, 2, 3)),
+        (5, "34", (1, 3)),
+        (6, "34", (4, 3)),
+    ):
+        given = [*answers[:place], answer, *answers[place + 1 :]]
+        for written in ((4, 3), (3, 4), (4,), (4, 2, 3), (1, 3)):
+            rows = [("P", filled(converter(tenths))) for tenths in written]
+            text = write_file(6, rows)
+            shown, fault = told_from_plain_list(calls, [*given, f"0,{len(text)},{text.hex()}"])
+            name = f"plain list {left}, call {place + 1} answered {answer}, written {written}: {fault}"
+            tests.same(name, (shown, fault is None), (1, written == left))
+    text = write_file(6, lone_bus(20000))
+    for answer, left in (("0,0", 1), ("16,2", 0)):
+        lists = [("source", converter(1)), ("read", text), ("write", 200)]
+        given = ["0", answer, f"0,{len(text)},{text.hex()}"]
+        shown, fault = told_from_plain_list(lists, given)
+        tests.same(f"plain list behind a file: {fault}", (shown, fault is None), (1, left == 1))
+    tests.same("plain list without a write", told_from_plain_list(calls, [*answers, "22,0,55"]), (0, None))
+
+
+class ChangesMet:
+    """What a list of calls shows of order 8, in words."""
+
+    def __init__(self):
+        self.met = Counter()
+
+    def walk(self, calls):
+        self.study, self.before, self.buses, self.withdrawn = Study(), None, None, False
+        for call in calls:
+            if call[0] not in KEEPS:
+                (number, *_), after = carried_out(self.study, call)
+                self.met.update(self.words(call, number, after))
+                self.note(call[0], number, after)
+
+    def note(self, name, number, after):
+        if name == "start" or name.startswith("read"):
+            self.buses, self.withdrawn = None, False
+        if (name, number) == ("reopen", 0) and self.buses is None:
+            self.buses = len(after.buses)
+        self.withdrawn |= (name, number) == ("withdraw", 0)
+        self.study, self.before = after, (name, number)
+
+    def words(self, call, number, after):
+        name, *rest = call
+        if name in ("withdraw", "replace"):
+            yield from self.place_words(name, rest[0])
+        if name == "replace":
+            yield from self.record_words(rest[0], SourceRecord(*rest[1]), number)
+        if name in ("bus", "source"):
+            yield from self.addition_words(name, rest[0], number, after)
+        if (name, number) == ("withdraw", 0):
+            if len(after.sources) == 1:
+                yield "all but the feeder withdrawn"
+            if self.before[1]:
+                yield "withdrawal behind a refused call"
+        if self.before == (name, 0) and (name, number) in (("reopen", 22), ("close", 21)):
+            yield f"{name} twice"
+
+    def place_words(self, name, place):
+        state = "closed" if self.study.closed else "open"
+        last = len(self.study.sources) - 1
+        ends = ("0", 0), ("1", 1), ("last", last), ("last + 1", last + 1), ("2^32 - 1", GREATEST)
+        for words, end in ends:
+            if place == end:
+                yield f"{name} {words}, {state}"
+
+    def record_words(self, place, record, number):
+        if number == NO_PLACE:
+            faulty = first_true(self.study.source_grounds(record))
+            yield f"place refused, its record {'faulty' if faulty else 'right'}"
+        elif number:
+            yield f"replacement refused with {number}"
+        else:
+            if self.study.sources[place].kind != record.kind:
+                yield f"kind {self.study.sources[place].kind} replaced by kind {record.kind}"
+            if self.buses is not None and record.bus >= self.buses:
+                yield "source moved to a bus of a reopened study"
+
+    def addition_words(self, name, numbers, number, after):
+        if number == 0 and self.buses is not None:
+            if name == "bus":
+                yield "bus added to a reopened study"
+            elif numbers[1] >= self.buses:
+                yield "source added at a bus of a reopened study"
+        if name == "source" and self.withdrawn:
+            if number == 24:
+                yield "24 behind a withdrawal"
+            if number == 0 and len(after.sources) == SOURCES:
+                yield "freed space filled"
+
+
+def changes_drawn(tests, count=200):
+    """All that order 8 speaks of is drawn as a matter of course."""
+    changes = ChangesMet()
+    for n in range(count):
+        changes.walk(drawn_course(Random(f"changes {n}")).calls)
+    met = changes.met
+    print(f"{count} lists of changes: {', '.join(f'{name} {met[name]}' for name in sorted(met))}")
+    tests.same("changes drawn", len(met), 2 * 2 * 5 + 2 + 6 + 4 * 3 + 3 + 2 + 2 + 2)
+    tests.true("each of them often", min(met.values()) >= count // 40)
+
+
+def plain_list_finds(tests):
+    """The plain list finds wrong sources by itself; drawn lists find all faults but that of full
+    tables, which not every unit of theirs has."""
+    fixed, drawn = change_unit(), drawn_unit("changes", 5, range(20))
+    for name in ("withdrawal moves one short", "last source kept behind withdrawal"):
+        failures = run_unit(InProcess(CHANGE_FAULTS[name]), fixed, BENCH).failures
+        tests.true(f"plain list finds: {name}", any(f.name.endswith(OF_PLAIN_LIST) for f in failures))
+    for name in set(CHANGE_FAULTS) - {"freed space not used"}:
+        failures = run_unit(InProcess(CHANGE_FAULTS[name]), drawn, BENCH).failures
+        tests.true(f"drawn changes find: {name}", failures)
+
+
 def timing_of_breaking(tests):
     for plan in fixed_breakings():
         if plan.name in ("machines of all kinds", "full_tree 1"):
@@ -1044,8 +1213,9 @@ def by_processes(tests):
     here = __file__.rpartition("/")[0] or "."
     commands = [f"{sys.executable} {here}/reference.py {role}" for role in ("program", "console")]
     units = fixed_units()
-    drawn = [(kind, 2, range(3)) for kind in ("writes", "breakings", "units", "reactances", "reports")]
-    own = [reactance_units()[-1], *breaking_units()[:2], *report_units()[:2]]
+    drawn = [(kind, 2, range(3)) for kind in ("writes", "breakings", "units", "reactances")]
+    drawn += [(kind, 2, range(3)) for kind in ("reports", "changes")]
+    own = [reactance_units()[-1], *breaking_units()[:2], *report_units()[:2], change_unit()]
     for unit in (*units[:3], units[5], *own, *drawn):
         outcome = run_unit(Commands(*commands), unit, BENCH)
         tests.true("stand-in by processes", outcome.passed and not outcome.failures)
@@ -1063,6 +1233,7 @@ def planted_faults(tests):
     drawn.append(drawn_unit("units", 1, range(20)))
     drawn.append(drawn_unit("reactances", 1, range(20)))
     drawn.append(drawn_unit("reports", 1, range(40)))
+    drawn.append(drawn_unit("changes", 1, range(40)))
     refused, failing = set(), set()
     for unit in units + drawn:
         outcome = run_unit(InProcess(StandIn), unit, BENCH)
@@ -1070,7 +1241,7 @@ def planted_faults(tests):
         for failure in outcome.failures:
             print(f"{failure.name}: {failure.reason}")
         tests.true("no fault planted", outcome.passed and not outcome.failures)
-    tests.same("grounds met", refused, set(range(1, 17)) | set(range(21, 26)) | {30, 31, 32, 33})
+    tests.same("grounds met", refused, set(range(1, 17)) | set(range(21, 26)) | set(range(30, 35)))
     breakings = breaking_units()
     tried = [(*fault, units) for fault in (FAULTS | UNIT_FAULTS).items()]
     tried += [(*fault, breakings) for fault in (BREAKING_FAULTS | UNIT_BREAKING_FAULTS).items()]
@@ -1079,6 +1250,7 @@ def planted_faults(tests):
     tried += [(*fault, low[-1:]) for fault in REACTANCE_BREAKING_FAULTS.items()]
     reports = report_units()
     tried += [(*fault, reports) for fault in REPORT_FAULTS.items()]
+    tried += [(*fault, [change_unit()]) for fault in CHANGE_FAULTS.items()]
     for name, stand_in, among in tried:
         found = None
         for unit in among:
@@ -1089,7 +1261,7 @@ def planted_faults(tests):
         if found:
             failing |= {failure.name for failure in found}
             print(f"planted fault: {name}; found by: {found[0].name}; {len(found)} in its unit")
-    for make in WRITTEN + BROKEN + REPORTED:
+    for make in WRITTEN + BROKEN + REPORTED + CHANGED:
         tests.true(f"some fault fails {make.__name__}", f"calls: {make.__name__}" in failing)
 
 
@@ -1133,6 +1305,10 @@ TESTS = [
     row_floats_accepted,
     rooms_drawn,
     drawn_reports_find,
+    worked_changes,
+    plain_list_by_hand,
+    changes_drawn,
+    plain_list_finds,
     timing_of_breaking,
     timing,
     by_processes,
