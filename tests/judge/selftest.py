@@ -487,16 +487,19 @@ def answers_told_apart(tests):
 
 def refused_calls(tests):
     """A refused call, starting and reading apart, gives back the very study it was made on."""
+    refused, changed = 0, []
     for n in range(20):
         study = Study()
         for call in drawn_calls(Random(n)) + drawn_course(Random(n)).calls:
-            if call[0] in KEEPS or call[0].startswith(("start", "read")):
+            if call[0] in KEEPS:
                 continue
-            before = study
-            (number,), study = carried_out(study, call)
-            if number and study is not before:
-                tests.true(f"refused {call[0]} leaves the study", False)
-    tests.true("refused calls leave the study", True)
+            (number, *_), after = carried_out(study, call)
+            if number and not call[0].startswith(("start", "read")):
+                refused += 1
+                changed += [call] if after is not study else []
+            study = after
+    tests.same("refused calls that change the study", changed, [])
+    tests.true("many calls are refused", refused > 200)
 
 
 def units_confirmed(tests):

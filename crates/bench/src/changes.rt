@@ -1,5 +1,5 @@
-// Sources added, withdrawn and replaced again and again, as bench/changes.c times them. It is proved safe and no more: nobody uses what it
-// gives.
+// Sources added, withdrawn and replaced again and again, as bench/changes.c times them. It is proved safe and no more; by the count that it
+// gives, bench/changes.c sees that no change was refused.
 use network::calls::add_source;
 use network::calls::reopen;
 use network::calls::replace;

@@ -75,7 +75,7 @@ take-stored (suc n) [] i x = refl
 take-stored (suc n) (y ∷ l) zero x = refl
 take-stored (suc n) (y ∷ l) (suc i) x = ap (λ (r : List _). y ∷ r) (take-stored n l i x)
 
--- where the record behind place i is copied to it, the place to leave out is the next one
+-- if the record behind place i is copied to it, the place to leave out is the next one
 pub removed-moved : {X : Type 0} (l : List X) (i : ℕ) (d : X) → suc i < length l → removed (suc i) (set l i (getD l (suc i) d)) ≡ removed i l
 removed-moved [] i d h = absurd (omega arith)
 removed-moved (x ∷ []) i d h = absurd (omega arith)

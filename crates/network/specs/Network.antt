@@ -1,4 +1,5 @@
--- The network of a study: its tolerance, whether it is closed, and the lists of its records, each kind in order.
+-- The network of a study: its tolerance, whether it is closed, and the lists of its records, each kind in order. Since order 8 of document
+-- 02 its sources are those of the plain list (PlainList).
 use mathlib.Core.Bool.{Bool, false, cond}
 use mathlib.Core.List.{List, [], _∷_, _++_}
 use Prim.Native.Nat.{ℕ, zero, suc, _+_}

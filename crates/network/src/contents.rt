@@ -36,7 +36,7 @@ pub fn buses_of(s: Study) -> [Bus; BUSES]
 // the study.
 pub fn sources_of(s: Study) -> [Source; SOURCES]
     ensures sources { λ r. ⌜ take (length (network s .sources)) r ≡ network s .sources ⌝ }
-    ensures plain { λ r. ⌜ ((cs : List Call) → network s ≡ run cs → take (length (plainRun cs)) r ≡ plainRun cs) ⌝ }
+    ensures plain { λ r. ⌜ ((cs : List Call) → network s ≡ run cs → take (length (network s .sources)) r ≡ plainRun cs) ⌝ }
 {
     s.sources
 }

@@ -22,7 +22,7 @@ abbrev pub maxBytes : ℕ
 maxBytes = 65536
 
 -- "`B,` with ten fields or `P,` with seven"; "Source records become twelve fields" (document 02, order 5); and the most numbers that are
--- taken of a row: more than any row has, and as many as a line of the console may have behind its word
+-- taken of a row, more than any row has: the console's lines take theirs the same way, and have more
 abbrev pub busFields : ℕ
 busFields = 10
 

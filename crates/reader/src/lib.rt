@@ -30,7 +30,7 @@ pub use rows::source_of;
 const BYTES: usize = 65_536;
 
 // The fields of a bus row and of a source row, those of a source row without a transformer's, and the most numbers that are taken of a
-// row: more than any row has, and as many as a line of the console may have behind its word.
+// row. That is more than any row has: the console's lines take theirs the same way, and have more.
 pub const BUS_FIELDS: usize = 10;
 
 pub const SOURCE_FIELDS: usize = 12;

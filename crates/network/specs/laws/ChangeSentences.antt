@@ -1,20 +1,22 @@
 -- Document 02, order 8, sentence by sentence, as theorems about the definitions of Grounds and PlainList; and a list of calls worked out.
 -- Assumes nothing.
 use mathlib.Core.Path.{_≡_, refl, sym, _∙_}
-use mathlib.Core.Bool.{true, false}
+use mathlib.Core.Bool.{Bool, true, false}
 use mathlib.Core.List.{List, [], _∷_, map}
 use Prim.Native.Nat.{ℕ, zero, suc, _+_, _≤_, _<_}
 use native.Mathlib.Omega.{arith}
+use lib.Dec.{eqb}
 use lib.ListN.{length, getD}
 use lib.Seq.{getD-set-same, getD-set-other}
 use Rattle.tree.specs.Limits.{maxSources}
 use Rattle.network.specs.declared.study.Source.{Source}
 use Rattle.network.specs.Records.{branchOk}
 use Rattle.network.specs.SourceKinds.{rangesOk, fieldsOk}
-use Rattle.network.specs.Network.{Network, removed, withoutSource, withSourceAt, blankSource, sourceAt, along}
+use Rattle.network.specs.Network.{Network, removed, withoutSource, withSourceAt, closedAs, blankSource, sourceAt, along}
 use Rattle.network.specs.Grounds.{startNetwork, depthOk, busRecordNumber, busNumberIn, afterBusIn, sourceRecordNumber, sourceNumberIn, sourceNumber, afterSourceIn, placeOk, withdrawNumber, afterWithdraw, replaceNumber, afterReplace, closeNumber, afterClose, reopenNumber, afterReopen, Call, emptyNetwork, run}
 use Rattle.network.specs.Grounds.Call.{starting, addingBus, addingSource, withdrawing, replacing, closing, reopening}
 use Rattle.network.specs.PlainList.{Answered, answeredFrom, plainFrom}
+use Rattle.network.specs.laws.Tests.{by-test}
 use Rattle.network.specs.laws.Acceptance.{granted, ok-place, source-number-open, withdraw-there, replace-number-there, replace-there}
 use Rattle.network.specs.laws.Rebuilt.{source-record-past, run-rebuilt}
 use Rattle.network.specs.laws.PlainList.{plain-from}
@@ -46,7 +48,16 @@ module _ (n : Network) (j : ℕ) where
       rw (granted _ (withoutSource n j) n e)
       (λ h. removed-before (n .sources) j i blankSource h, λ h. removed-past (n .sources) j i blankSource h)
 
+  -- "Withdrawing and replacing go by places from 0, in open and closed studies alike."
+  pub withdrawn-alike : (c : Bool) → (withdrawNumber (closedAs c n) j ≡ withdrawNumber n j) × (afterWithdraw (closedAs c n) j ≡ closedAs c (afterWithdraw n j))
+  unfolding withdrawNumber afterWithdraw
+  withdrawn-alike c = (refl, by-test (placeOk n j) (λ t. rw t refl) (λ t. rw t refl))
+
   module _ (p : Source) where
+    pub replaced-alike : (c : Bool) → (replaceNumber (closedAs c n) j p ≡ replaceNumber n j p) × (afterReplace (closedAs c n) j p ≡ closedAs c (afterReplace n j p))
+    unfolding replaceNumber afterReplace
+    replaced-alike c = (refl, by-test (eqb (replaceNumber n j p) 0) (λ t. rw t refl) (λ t. rw t refl))
+
     -- "A new record for a place supersedes the old": the others stay
     pub supersedes : replaceNumber n j p ≡ 0 → (sourceAt (afterReplace n j p .sources) j ≡ p) × ((i : ℕ) → (i ≡ j → ⊥) → sourceAt (afterReplace n j p .sources) i ≡ sourceAt (n .sources) i)
     unfolding afterReplace
@@ -55,7 +66,7 @@ module _ (n : Network) (j : ℕ) where
         rw (granted _ (withSourceAt n j p) n e)
         (getD-set-same (n .sources) j p blankSource (h .1), λ i d. getD-set-other (n .sources) j i p blankSource d)
 
-    -- "checked like an addition except for 21 and 24": alike where neither of the two is given
+    -- "checked like an addition except for 21 and 24": alike if neither of the two is given
     pub like-an-addition : placeOk n j ≡ true → n .closed ≡ false → length (n .sources) < maxSources → replaceNumber n j p ≡ sourceNumber n p
     like-an-addition ok o room =
         let h = ok-place n j ok in

@@ -23,8 +23,8 @@ abbrev pub AcceptedAt : List Bus → ℕ → Source → Type 0
 AcceptedAt l j p = sourceRecordNumber l j p ≡ 0
 
 -- "14 first source not a feeder, feeder elsewhere than bus 0, or a second one.": the first source is accepted at place 0, each other one at
--- place 1, which stands for every place but 0 (`source-record-past`). Said so, and not place by place, it holds as well where sources
--- behind the first are left out, rewritten or added.
+-- place 1, which stands for every place but 0 (`source-record-past`). Said so, and not place by place, it still holds if
+-- sources behind the first are left out, rewritten or added.
 abbrev pub SourcesAccepted : List Bus → List Source → Type 0
 SourcesAccepted l [] = Unit
 SourcesAccepted l (p ∷ ps) = AcceptedAt l 0 p × Each (AcceptedAt l 1) ps
@@ -104,7 +104,7 @@ sources-more l [] p s e = (e, tt)
 sources-more l (q ∷ ps) p s e =
     (s .0, each-both (AcceptedAt l 1) ps (p ∷ []) (s .1) (source-record-past l 1 (length (q ∷ ps)) p (omega arith) (omega arith) ∙ e, tt))
 
--- ---- a network with other sources that are accepted over its buses: few enough, and one of them where it is closed
+-- ---- a network with other sources that are accepted over its buses: few enough, and at least one if it is closed
 pub rebuilt-sources : {n : Network} → Rebuilt n → (ps : List Source) → SourcesAccepted (n .buses) ps → length ps ≤ maxSources → (n .closed ≡ true → 0 < length ps) → Rebuilt (withSources n ps)
 rebuilt-sources r ps s few some = record {
   tolerance = r .tolerance;
@@ -132,7 +132,7 @@ rebuilt-bus-more {n} r b room e = record {
   fed = r .fed;
 }
 
--- ---- closed or open, where a closed one has a source
+-- ---- closed or open; a closed one has a source
 pub rebuilt-closed-as : {n : Network} → Rebuilt n → (c : Bool) → (c ≡ true → 0 < length (n .sources)) → Rebuilt (closedAs c n)
 rebuilt-closed-as r c some = record {
   tolerance = r .tolerance;

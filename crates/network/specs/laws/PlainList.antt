@@ -1,8 +1,7 @@
 -- The sources of a study are those of the plain list, whatever calls made it. Assumes nothing.
-use mathlib.Core.Path.{_≡_, refl, sym, ap, _∙_}
+use mathlib.Core.Path.{_≡_, refl, ap, _∙_}
 use mathlib.Core.Bool.{Bool, true, false, cond}
 use mathlib.Core.List.{List, [], _∷_}
-use Prim.Native.Nat.{ℕ}
 use lib.Dec.{eqb}
 use lib.ListN.{length, take}
 use Rattle.network.specs.declared.study.Source.{Source}
@@ -16,7 +15,7 @@ sources-of : (t : Bool) (x y : Network) → cond t x y .sources ≡ cond t (x .s
 sources-of true x y = refl
 sources-of false x y = refl
 
--- where both have the same
+-- the same, if both have them
 sources-kept : (t : Bool) (x y : Network) → x .sources ≡ y .sources → cond t x y .sources ≡ y .sources
 sources-kept true x y e = e
 sources-kept false x y e = refl
@@ -38,13 +37,11 @@ pub plain-from : (n : Network) (cs : List Call) → runFrom n cs .sources ≡ pl
 plain-from n [] = refl
 plain-from n (c ∷ cs) = plain-from (step n c) cs ∙ ap (λ (l : List Source). plainFrom l (answeredFrom (step n c) cs)) (step-plain n c)
 
--- THE PLAIN LIST
+-- THE PLAIN LIST: "this list then gives the sources of document 01's network"
 pub plain-list : (cs : List Call) → run cs .sources ≡ plainRun cs
 unfolding run plainRun
 plain-list cs = plain-from emptyNetwork cs
 
 -- of the sources as a study gives them
-pub plain-given : (n : Network) (l : List Source) → take (length (n .sources)) l ≡ n .sources → (cs : List Call) → n ≡ run cs → take (length (plainRun cs)) l ≡ plainRun cs
-plain-given n l e cs m =
-    let same : n .sources ≡ plainRun cs = ap (λ (k : Network). k .sources) m ∙ plain-list cs in
-    rw (← same) e
+pub plain-given : (n : Network) (l : List Source) → take (length (n .sources)) l ≡ n .sources → (cs : List Call) → n ≡ run cs → take (length (n .sources)) l ≡ plainRun cs
+plain-given n l e cs m = e ∙ ap (λ (k : Network). k .sources) m ∙ plain-list cs

@@ -17,7 +17,7 @@ pub use Rattle.network.specs.laws.Invariant.{Rebuilt, AcceptedAt, Source
 use Rattle.network.specs.laws.Invariant.{rebuilt-empty, rebuilt-start, rebuilt-bus-more, rebuilt-closed-as}
 use Rattle.network.specs.laws.SourcesChanged.{rebuilt-removed, rebuilt-rewritten}
 
--- where a call is refused the network stays as it was
+-- if a call is refused, the network stays as it was
 after : (k : ℕ) (x n : Network) → Rebuilt n → (k ≡ 0 → Rebuilt x) → Rebuilt (cond (eqb k 0) x n)
 after k x n r h = by-test (eqb k 0) (λ t. rw t (h (eqb-true k 0 t))) (λ t. rw t r)
 
