@@ -2,6 +2,8 @@
 // and querying a study (bench/queries.c), all its buses together (bench/boards.c), breaking currents (bench/breakings.c), writing
 // it (bench/writes.c), and changing its sources (bench/changes.c, module changes). By tests/check-report: a study that is closed again and
 // again, and then reported or queried (module closings).
+#![tactic(auto)]
+
 ghost use Rattle.std.specs.Prelude.{◌≡◌, ◌<◌, ◌+◌};
 ghost use Rattle.enclosure.specs.Doubles.{added, inverted, scaled, root_below};
 ghost use Rattle.network.specs.Network.{network};

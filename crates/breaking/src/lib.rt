@@ -1,5 +1,7 @@
 // Breaking current Ib of a bus (document 02, order 3): what a breaker meets that opens after a minimum time delay, and each generator's
 // share in it.
+#![tactic(auto)]
+
 ghost use Rattle.std.specs.Prelude.{◌≡◌, ◌≤◌, length};
 ghost use Rattle.elements.specs.BreakingFactor.{delay_ok};
 ghost use Rattle.tree.specs.Limits.{max_sources};
@@ -19,7 +21,7 @@ use parts::amperes_up;
 use table::lay_shares;
 
 // What the call gives: the number of its ground, and the breaking figure.
-#[derive(Drop)]
+#[derive(Clone, Copy)]
 pub struct BreakingAnswer {
     pub number: u32,
     pub figure: Rms,

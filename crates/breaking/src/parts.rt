@@ -12,7 +12,7 @@ use network::study::Source;
 use network::{has_generator, is_converter, kva_seen, volts_seen};
 
 // A source's two numbers of the table, and its steps in the sum.
-#[derive(Drop)]
+#[derive(Clone, Copy)]
 pub struct Part {
     pub lower: f64,
     pub upper: f64,

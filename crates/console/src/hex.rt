@@ -11,7 +11,7 @@ use printing::{LINE, put};
 pub(crate) const TEXT: usize = 70_000;
 
 // How many bytes the digits give, unless they are not pairs of hexadecimal digits.
-#[derive(Drop)]
+#[derive(Clone, Copy)]
 pub(crate) enum Decoded {
     Bytes(usize),
     Broken,

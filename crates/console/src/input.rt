@@ -10,14 +10,14 @@ pub(crate) const BLOCK: usize = 4096;
 pub(crate) const LINE_ROOM: usize = 140_002;
 
 // The bytes of the block that are not used yet: from `at` up to `filled`.
-#[derive(Drop)]
+#[derive(Clone, Copy)]
 pub(crate) struct Cursor {
     pub at: usize,
     pub filled: usize,
 }
 
 // The next byte, unless the input has ended.
-#[derive(Drop)]
+#[derive(Clone, Copy)]
 struct Step {
     ended: bool,
     byte: u8,
@@ -25,7 +25,7 @@ struct Step {
 }
 
 // The bytes of a line, without its end, unless the input ended before it began.
-#[derive(Drop)]
+#[derive(Clone, Copy)]
 pub(crate) struct Line {
     pub ended: bool,
     pub length: usize,

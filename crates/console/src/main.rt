@@ -1,4 +1,6 @@
 // The calls on a study by lines: each line of standard input names a call, and its answer is a line on standard output.
+#![tactic(auto)]
+
 mod answers;
 mod calls;
 mod hex;

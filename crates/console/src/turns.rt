@@ -8,7 +8,7 @@ use network::query::Found;
 use network::study::Study;
 
 // Why a line is no call.
-#[derive(Drop)]
+#[derive(Clone, Copy)]
 pub(crate) enum Reason {
     Fields,
     Number,
@@ -20,7 +20,7 @@ pub(crate) enum Reason {
 
 // What a line is answered with. Of a writing: the number, the length of the text, and how many bytes were lent. Of a breaking
 // current: the number, the figure, and how many numbers were lent. Of a report: the number, and how many numbers were lent.
-#[derive(Drop)]
+#[derive(Clone, Copy)]
 pub(crate) enum Reply {
     Ground(u32),
     Reading(u32, u32),
@@ -31,7 +31,7 @@ pub(crate) enum Reply {
     Error(Reason),
 }
 
-#[derive(Drop)]
+#[derive(Clone, Copy)]
 pub(crate) struct Turn {
     pub reply: Reply,
     pub study: Study,

@@ -1,4 +1,6 @@
 // Prints the factors over the ranges of document 01, a line for each value: a letter, the arguments, the value.
+#![tactic(auto)]
+
 ghost use Rattle.std.specs.Prelude.{◌≤◌};
 
 use elements::factors::{fine_factor, peak_factor, reactance, sine, split_factor, voltage_factor};

@@ -8,11 +8,11 @@ ghost use Rattle.enclosure.specs.Doubles.{of_whole};
 use crate::whole;
 
 // Root-mean-square amperes.
-#[derive(Drop)]
+#[derive(Clone, Copy)]
 pub struct Rms(pub f64);
 
 // Peak amperes.
-#[derive(Drop)]
+#[derive(Clone, Copy)]
 pub struct Peak(pub f64);
 
 pub fn rms_of(n: u64) -> Rms

@@ -2,20 +2,22 @@
 // Points of the closed first quadrant in f64: impedances R + jX as they are, admittances G - jB as G and B.
 // Each function ensures that it computes its definition in specs/Doubles.antt; how near that is to the exact operation is proved in
 // specs/laws/F64Errors.antt and specs/laws/WholeBounds.antt.
+#![tactic(auto)]
+
 pub mod amperes;
 pub mod roots;
 
 ghost use Rattle.std.specs.Prelude.{◌≡◌, ◌^◌, ◌<◌, min};
 ghost use Rattle.enclosure.specs.Doubles.{of_whole, none, whole_point, added, empty, inverted, scaled, size_below, lower_of, upper_of, bounds_of};
 
-#[derive(Drop)]
+#[derive(Clone, Copy)]
 pub struct Complex {
     pub re: f64,
     pub im: f64,
 }
 
 // Whole numbers on both sides of a size.
-#[derive(Drop)]
+#[derive(Clone, Copy)]
 pub struct Bounds {
     pub lower: u64,
     pub upper: u64,

@@ -1,5 +1,7 @@
 // Vectors of enclosing arithmetic, one to a line: the operation, its inputs and its result, an f64 by its bits in hexadecimal.
 // tests/check-enclosure confirms every line.
+#![tactic(auto)]
+
 mod line;
 
 ghost use Rattle.std.specs.Prelude.{◌≤◌, ◌^◌};

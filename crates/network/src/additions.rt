@@ -11,20 +11,20 @@ use crate::study::{BUSES, Bus, Source, Study, blank_bus, place_in};
 pub const ADDITIONS: usize = 32;
 
 // A record that is to be added.
-#[derive(Drop)]
+#[derive(Clone, Copy)]
 pub enum Addition {
     OfBus(Bus),
     OfSource(Source),
 }
 
 // A place for one: an array in a struct holds structs.
-#[derive(Drop)]
+#[derive(Clone, Copy)]
 pub struct Entry {
     pub addition: Addition,
 }
 
 // Additions in order: the first of them, as many as are counted.
-#[derive(Drop)]
+#[derive(Clone, Copy)]
 pub struct Additions {
     pub count: usize,
     pub entries: [Entry; ADDITIONS],
@@ -32,7 +32,7 @@ pub struct Additions {
 
 // What they come to: the number of the first that is refused, 0 where none is, how many are accepted before it, and the study after
 // these.
-#[derive(Drop)]
+#[derive(Clone, Copy)]
 pub struct Added {
     pub number: u32,
     pub accepted: usize,

@@ -11,7 +11,7 @@ use sweep::sweeps::{sweep_down, sweep_up};
 
 // The tree; of the sweeps what is seen at each bus without its parent, and of its parent there; and the converters' currents gathered at
 // bus 0. What no row reads is not kept: a call copies the board.
-#[derive(Drop)]
+#[derive(Clone, Copy)]
 pub struct Board {
     pub tree: TreeColumns,
     pub up: Points,

@@ -99,14 +99,14 @@ fn rating_ok(b: Bus) -> bool
 }
 
 // The branches, and the transformers among them, on the way from a bus to bus 0.
-#[derive(Drop)]
+#[derive(Clone, Copy)]
 struct Way {
     branches: usize,
     transformers: usize,
 }
 
 // Of each bus its parent and the kind of its branch: the way to bus 0 is found by these, so that no step of it copies the records.
-#[derive(Drop)]
+#[derive(Clone, Copy)]
 struct WayColumns {
     parents: [u32; BUSES],
     kinds: [u32; BUSES],

@@ -12,7 +12,7 @@ use crate::source_grounds::source_record_number;
 use crate::study::{BUSES, Bus, SOURCES, Source, Study, clamped_sources, empty_study, place_in};
 
 // What a call gives: the number of its ground and the study after it.
-#[derive(Drop)]
+#[derive(Clone, Copy)]
 pub struct Answer {
     pub number: u32,
     pub study: Study,

@@ -10,7 +10,7 @@ use sweep::columns::{Points, clamped, number_at, point_at};
 
 // Of each bus its parent, rated volts of its branch on the parent's side and on its own, and its nominal volts; those of a blank record
 // past the last bus.
-#[derive(Drop)]
+#[derive(Clone, Copy)]
 pub struct TreeColumns {
     pub parents: [u32; BUSES],
     pub above: [u32; BUSES],
@@ -19,7 +19,7 @@ pub struct TreeColumns {
 }
 
 // What stands at each bus: the sum of its machines' admittances, and that of its converters' currents.
-#[derive(Drop)]
+#[derive(Clone, Copy)]
 pub struct Standing {
     pub own: Points,
     pub supplied: Points,

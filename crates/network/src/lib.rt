@@ -1,5 +1,7 @@
 // A study of a radial network: what it holds (study), the calls that make it (calls; several additions in one, additions), and what it is
 // asked (query; all buses together, report). The other modules are what these stand on.
+#![tactic(auto)]
+
 pub mod additions;
 mod board;
 mod bus_grounds;

@@ -16,7 +16,7 @@ use enclosure::amperes::{
 };
 
 // What a bus gets, in amperes: bounds of the machines' and of the converters' current, and their peaks.
-#[derive(Drop)]
+#[derive(Clone, Copy)]
 pub struct Amperes {
     pub lower: Rms,
     pub upper: Rms,
@@ -27,7 +27,7 @@ pub struct Amperes {
 }
 
 // A bus against its ratings: within by a margin, over by an excess, or too close to tell.
-#[derive(Drop)]
+#[derive(Clone, Copy)]
 pub enum Verdict {
     Within(f64),
     Over(f64),
@@ -35,7 +35,7 @@ pub enum Verdict {
 }
 
 // What a query gives: the number of its ground, the six amperes and the verdict.
-#[derive(Drop)]
+#[derive(Clone, Copy)]
 pub struct Found {
     pub number: u32,
     pub amperes: Amperes,

@@ -12,7 +12,7 @@ pub const SOURCES: usize = 512;
 
 // A bus with the branch to its parent. Of a line (kind 1) the fields are r, x, metres, circuits and 0; of a transformer (kind 2)
 // rated volts on the parent's side and on its own, kVA, uk and uR; bus 0 has kind 0 and no branch.
-#[derive(Drop)]
+#[derive(Clone, Copy)]
 pub struct Bus {
     pub parent: u32,
     pub volts: u32,
@@ -29,7 +29,7 @@ pub struct Bus {
 // A source at a bus: feeder (kind 1), generator (2), motor (3), converter (4) or power station unit (5), with five fields by its kind. Of a
 // unit these are its generator's, and five more its transformer's: rated volts on the low and on the high side, kVA, uk and uR. Of any other
 // kind the five more are 0.
-#[derive(Drop)]
+#[derive(Clone, Copy)]
 pub struct Source {
     pub kind: u32,
     pub bus: u32,
@@ -45,7 +45,7 @@ pub struct Source {
     pub ur: u32,
 }
 
-#[derive(Drop)]
+#[derive(Clone, Copy)]
 pub struct Study {
     pub(crate) tolerance: u32,
     pub(crate) closed: bool,

@@ -10,7 +10,7 @@ use sweep::sweeps::{sweep_down, sweep_up};
 use sweep::ways::{Reach, crossings_of, reach_of};
 
 // The nominal volts of each bus, and the way to it.
-#[derive(Drop)]
+#[derive(Clone, Copy)]
 pub struct Ways {
     pub volts: [u32; BUSES],
     pub reach: Reach,

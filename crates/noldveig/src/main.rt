@@ -1,5 +1,7 @@
 // A study as text on standard input; on standard output a line for each bus, or the number and the row of a refusal. All that is printed
 // is laid into one array and written at once, so that it is one definition of the text.
+#![tactic(auto)]
+
 ghost use Rattle.std.specs.Prelude.{◌≡◌, true, ◌++◌, ◌+◌, ◌*◌, ◌≤◌, length, take};
 ghost use Rattle.network.specs.Network.{max_buses, network};
 ghost use Rattle.reader.specs.File.{read_of};

@@ -1,4 +1,6 @@
 // Answers as text. A line is put together in an array of the caller's, so that a program can write it at once.
+#![tactic(auto)]
+
 ghost use Rattle.std.specs.Prelude.{◌≡◌, take};
 ghost use Rattle.network.specs.Demand.{letter_of};
 ghost use Rattle.printing.specs.Printed.{whole_of, amount_of, decimal, next_text, amperes_text, letter_text};

@@ -1,5 +1,7 @@
 // A study of 128 buses as text on standard input, closed and queried for one bus again and again, the buses in turn; on standard output the
 // six figures of all queries, added up. tests/check-report times report_rounds against it.
+#![tactic(auto)]
+
 use bench::closings::closed_queries;
 use libc::{STDIN_FILENO, STDOUT_FILENO};
 use network::calls::reopen;

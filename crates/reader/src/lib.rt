@@ -1,4 +1,6 @@
 // From the text of a file to a study: rows, fields, numbers, records.
+#![tactic(auto)]
+
 ghost use Rattle.std.specs.Prelude.{◌≡◌, ◌+◌, ◌≤◌, length, drop};
 ghost use Rattle.network.specs.Network.{network};
 ghost use Rattle.network.specs.Grounds.{empty_network, run};
@@ -31,14 +33,14 @@ const SHORT_SOURCE_FIELDS: usize = 7;
 pub const MOST_FIELDS: usize = 16;
 
 // What the bytes of a field say.
-#[derive(Drop)]
+#[derive(Clone, Copy)]
 pub enum Number {
     Value(u32),
     Broken,
 }
 
 // The numbers of a row, in order: those that are counted, where the row is in order, and zeros behind them.
-#[derive(Drop)]
+#[derive(Clone, Copy)]
 pub struct Numbers {
     pub ok: bool,
     pub count: usize,
@@ -46,7 +48,7 @@ pub struct Numbers {
 }
 
 // What a row says: the tolerance of a start, a record, or nothing that the file's form allows.
-#[derive(Drop)]
+#[derive(Clone, Copy)]
 pub enum Row {
     Start(u32),
     WithBus(Bus),
@@ -56,7 +58,7 @@ pub enum Row {
 
 // What reading a text gives: the number of the ground on which it was refused and the row, both 0 where it was accepted, and the
 // study.
-#[derive(Drop)]
+#[derive(Clone, Copy)]
 pub struct Reading {
     pub number: u32,
     pub row: u32,

@@ -10,7 +10,7 @@ use crate::rows::{row_end, row_of};
 use network::additions::{ADDITIONS, Addition, Additions, Entry, no_additions};
 
 // Additions, whether a row that breaks the form stands behind them, and where the rows behind them begin.
-#[derive(Drop)]
+#[derive(Clone, Copy)]
 pub struct Part {
     pub additions: Additions,
     pub malformed: bool,
@@ -18,7 +18,7 @@ pub struct Part {
 }
 
 // What a row behind the first adds: a record, or nothing, where it breaks the form.
-#[derive(Drop)]
+#[derive(Clone, Copy)]
 pub enum RowEntry {
     Record(Entry),
     Nothing,

@@ -1,5 +1,7 @@
 // Reads texts and prints of each, on a line: number and row, what closing the study then answers (21 where the text closed it), and how
 // many buses it has.
+#![tactic(auto)]
+
 ghost use Rattle.std.specs.Prelude.{◌≤◌, length};
 
 use libc::STDOUT_FILENO;

@@ -1,5 +1,7 @@
 // A study of 128 buses as text on standard input, closed and reported again and again; on standard output all numbers of all reports, added
 // up. tests/check-report times it against query_rounds.
+#![tactic(auto)]
+
 use bench::closings::closed_reports;
 use libc::{STDIN_FILENO, STDOUT_FILENO};
 use network::calls::reopen;

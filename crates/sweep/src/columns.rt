@@ -7,7 +7,7 @@ use crate::BUSES;
 use enclosure::{Complex, nothing};
 
 // A point for each bus.
-#[derive(Drop)]
+#[derive(Clone, Copy)]
 pub struct Points {
     pub re: [f64; BUSES],
     pub im: [f64; BUSES],

@@ -12,7 +12,7 @@ use enclosure::{Complex, add, inverse, is_nothing, nothing, scale};
 
 // What the sweep towards bus 0 leaves at each bus i: what is seen at i without its parent, what is seen of i at its parent, and what its
 // parent had gathered before i, from the children past i.
-#[derive(Drop)]
+#[derive(Clone, Copy)]
 pub struct Rises {
     pub up: Points,
     pub rise: Points,
@@ -20,7 +20,7 @@ pub struct Rises {
 }
 
 // What the sweep away from bus 0 leaves at each bus i: what is seen at its parent without i, and what is seen of its parent at i.
-#[derive(Drop)]
+#[derive(Clone, Copy)]
 pub struct Falls {
     pub down: Points,
     pub fall: Points,

@@ -16,7 +16,7 @@ const FAINTEST: u64 = 0x3870_0000_0000_0000;
 
 // Of one branch, for a way over it towards bus 0 (up) or away from bus 0 (down): the square of the part of a voltage that is left behind it,
 // and the rated ratio by which a current is carried back against the way.
-#[derive(Drop)]
+#[derive(Clone, Copy)]
 pub struct Crossing {
     pub divider_up: f64,
     pub divider_down: f64,
@@ -25,7 +25,7 @@ pub struct Crossing {
 }
 
 // The same of the branch of each bus.
-#[derive(Drop)]
+#[derive(Clone, Copy)]
 pub struct Crossings {
     pub divider_up: [f64; BUSES],
     pub divider_down: [f64; BUSES],
@@ -34,7 +34,7 @@ pub struct Crossings {
 }
 
 // From one bus to each bus: the product of the dividers on the way, and that of the rated ratios by which a current there is carried back.
-#[derive(Drop)]
+#[derive(Clone, Copy)]
 pub struct Reach {
     pub dividers: [f64; BUSES],
     pub ratios: [f64; BUSES],

@@ -4,7 +4,7 @@ use Prim.Native.Nat.{ℕ, zero, suc, ◌+◌, ◌*◌, ◌^◌, ◌≤◌, ◌<�
 use Rattle.std.specs.Prelude.{◌≡◌, drop, get_or, Float}
 use Rattle.std.proofs.Math.Path.{refl, ap}
 use Rattle.std.proofs.Common.{sym, ◌∙◌, take-append-drop, drop-cons}
-use mathlib.Core.List.{List, [], ◌∷◌, ◌++◌, append_nil}
+use mathlib.Core.List.{List, [], ◌∷◌, ◌++◌, append-nil}
 use native.Mathlib.Omega.{arith}
 use Rattle.std.proofs.Math.ListN.{length, take}
 use Rattle.std.proofs.Math.Seq.{take-add}
@@ -25,7 +25,7 @@ bounds_text lower upper (suc j) = bounds_text lower upper j ++ (next_text (lower
 
 two_whole : (a b : ℕ) → a ≤ 2 ^ 53 → b ≤ 2 ^ 53 → numbers_text (of_nat a ∷ of_nat b ∷ []) ≡ next_text a ++ next_text b
 unfolding numbers_text
-two_whole a b h k = rw (whole_printed a h, whole_printed b k, append_nil)
+two_whole a b h k = rw (whole_printed a h, whole_printed b k, append-nil)
 
 two_at : (table : List Float) (i : ℕ) → suc i < length table → take 2 (drop i table) ≡ get_or table i nan ∷ get_or table (i + 1) nan ∷ []
 two_at table i h = let s : i + 1 ≡ suc i = omega arith in rw (s, drop-cons table i nan (omega arith), drop-cons table (suc i) nan h)

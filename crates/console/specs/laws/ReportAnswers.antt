@@ -3,7 +3,7 @@
 use Prim.Native.Nat.{ℕ, zero, suc, ◌+◌, ◌*◌, ◌≤◌, ◌<◌}
 use Rattle.std.specs.Prelude.{◌≡◌, Bool, true, false, List, [], ◌∷◌, ◌++◌, drop, ltb, Float}
 use Rattle.std.proofs.Math.Path.{refl, ap}
-use Rattle.std.proofs.Common.{sym, ◌∙◌, append_nil, append_assoc, take-append-drop, drop-cons, ltb-true, ltb-false}
+use Rattle.std.proofs.Common.{sym, ◌∙◌, append-nil, append_assoc, take-append-drop, drop-cons, ltb-true, ltb-false}
 use native.Mathlib.Omega.{arith}
 use Rattle.std.proofs.Math.ListN.{length, take}
 use Rattle.std.proofs.Math.Seq.{take-add}
@@ -35,7 +35,7 @@ row_at table b h =
 
 row_text_law : (table : List Float) (b : ℕ) → numbers_text (row_numbers (row_in table b)) ≡ amperes_text (row_in table b)
 unfolding numbers_text amperes_text
-row_text_law table b = simp (append_nil, append_assoc)
+row_text_law table b = simp (append-nil, append_assoc)
 
 module _ (n : Network) (lent table : List Float) (h : ReportHolds n lent table) (room : 6 * length n.buses ≤ length lent) where
   -- the six whole numbers of bus b by the promise; by whether there is such a bus, and zeros where there is none

@@ -114,9 +114,11 @@ fair_add x y f g s = (record { left = mul-pos unit_pos unit_pos; right = unit_po
 
 -- ---- nothing
 zero_is : (a u w d : ℕ) → 0 < u → 0 < d → a * u ≡ w * d → (a * 1 == 0 * 1 * d) ≡ (w == 0)
+zero_is zero u (suc w) zero U D h = elim D [ ]
 zero_is a u zero d U D h = eq-eqb (a * 1) (0 * 1 * d) (zeroed a u U (omega arith))
   where
     zeroed : (a u : ℕ) → 0 < u → a * u ≡ 0 → a * 1 ≡ 0 * 1 * d
+    zeroed (suc a) zero U h = elim U [ ]
     zeroed zero u U h = omega arith
     zeroed (suc a) (suc u) U h = absurd (omega arith)
 zero_is zero u (suc w) (suc d) U D h = absurd (omega arith)

@@ -48,6 +48,7 @@ near_size M k x y z l h = put x.re x.im x.den y.re y.im y.den (halves _ _ (close
 
 -- what is within a factor of 2 of 0 is 0
 pub no_size : (s d t u : ℕ) → 0 < d → t ≡ 0 → s * d ≤ 2 * (t * u) → s ≡ 0
+no_size (suc s) zero t u z e h = elim z [ ]
 no_size zero d t u z e h = refl
 no_size (suc s) (suc d) zero u z e h = absurd (omega arith)
 no_size (suc s) (suc d) (suc t) u z e h = absurd (omega arith)

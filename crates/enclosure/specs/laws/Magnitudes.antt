@@ -1,6 +1,6 @@
 -- Laws of `SumAtMost` and `SumAtLeast`: bounds of each magnitude that are fractions give a bound of the sum; and how far apart two sums are.
 -- Assumes nothing.
-use Rattle.std.specs.Prelude.{ℕ, zero, suc, ◌*◌, ◌<◌, ◌≤◌, [], ◌∷◌, refl}
+use Rattle.std.specs.Prelude.{ℕ, zero, suc, ◌*◌, ◌<◌, [], ◌∷◌, refl}
 use Rattle.std.proofs.Common.{arith, le_refl, mul-pos}
 use Rattle.algebra.specs.Reading.{from, from_over, read, ◌⊹◌, ◌⋆◌}
 use Rattle.enclosure.specs.laws.Root.{root_le}

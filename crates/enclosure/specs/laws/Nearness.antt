@@ -74,6 +74,8 @@ near_turned M k c x y z w l p q h =
 
 -- ---- nothing is near nothing alone
 sq_zero : (c a b : ℕ) → 0 < c → c * (a * a + b * b) ≤ 0 → a + b ≡ 0
+sq_zero zero zero (suc b) z h = elim z [ ]
+sq_zero zero (suc a) b z h = elim z [ ]
 sq_zero c zero zero z h = refl
 sq_zero (suc c) zero (suc b) z h = absurd (omega arith)
 sq_zero (suc c) (suc a) zero z h = absurd (omega arith)
@@ -97,6 +99,7 @@ pub spread : (c r i : ℕ) → r + i ≡ 0 → r * c + i * c ≡ 0
 spread c r i h = let p : r ≡ 0 = omega arith in let q : i ≡ 0 = omega arith in rw (p, q) (omega arith)
 
 gathered : (c r i : ℕ) → 0 < c → r * c + i * c ≡ 0 → r + i ≡ 0
+gathered zero r i z h = elim z [ ]
 gathered (suc c) r i z h = omega arith
 
 pub near_nothing : (M k : ℕ) (x y : Point) → 0 < M → 2 * k ≤ M → Near M k x y → is_nothing x ≡ is_nothing y

@@ -6,7 +6,7 @@ use Rattle.std.proofs.Math.Nat.{mul-sub}
 use Rattle.std.proofs.Math.Dec.{nleb→lt}
 use Rattle.std.proofs.lemmas.Bool.{eqb-false, lt-leb}
 use Rattle.std.specs.Float.Ieee.Order.{transfer}
-use Rattle.std.specs.Float.{fin, Format, binary64}
+use Rattle.std.specs.Float.{nan, inf, fin, Format, binary64}
 use Rattle.std.specs.Float.Ieee.{up, down, round, of_int, in_float, add, sub, sum, lt, le}
 use Rattle.std.specs.Float.Ieee.Fits.{down_pos}
 use Rattle.std.specs.Float.Ieee.Exact.{HasValue}
@@ -48,6 +48,10 @@ unfolding sub
 opened f m e n d = refl
 
 sub_at : (f : Format) (x y : Float) (a c b d : ℕ) → 0 < c → 0 < d → HasValue x false a c → HasValue y false b d → b * c ≤ a * d → sub f x y ≡ round f false (a * d - b * c) (c * d)
+sub_at f nan y a c b d C D h k l = elim h [ ]
+sub_at f (inf _) y a c b d C D h k l = elim h [ ]
+sub_at f (fin false m e) nan a c b d C D h k l = elim k [ ]
+sub_at f (fin false m e) (inf _) a c b d C D h k l = elim k [ ]
 sub_at f (fin true m e) y a c b d C D h k l = absurd (true≢false h.0)
 sub_at f (fin false m e) (fin true n g) a c b d C D h k l = absurd (true≢false k.0)
 sub_at f (fin false m e) (fin false n g) a c b d C D h k l =
@@ -66,6 +70,10 @@ lt_same x y a b p q r s = go (nat_le b a) (leb→le b a) (nleb→lt b a)
 
 lt_at : (x y : Float) (a c b d : ℕ) → 0 < c → 0 < d → HasValue x false a c → HasValue y false b d → lt x y ≡ nat_lt (a * d) (b * c)
 unfolding lt
+lt_at nan y a c b d C D h k = elim h [ ]
+lt_at (inf _) y a c b d C D h k = elim h [ ]
+lt_at (fin false m e) nan a c b d C D h k = elim k [ ]
+lt_at (fin false m e) (inf _) a c b d C D h k = elim k [ ]
 lt_at (fin true m e) y a c b d C D h k = absurd (true≢false h.0)
 lt_at (fin false m e) (fin true n g) a c b d C D h k = absurd (true≢false k.0)
 lt_at (fin false m e) (fin false n g) a c b d C D h k =
@@ -93,6 +101,10 @@ or_leb x y = go (nat_lt x y) (x == y) refl refl
 
 le_at : (x y : Float) (a c b d : ℕ) → 0 < c → 0 < d → HasValue x false a c → HasValue y false b d → le x y ≡ nat_le (a * d) (b * c)
 unfolding le
+le_at nan y a c b d C D h k = elim h [ ]
+le_at (inf _) y a c b d C D h k = elim h [ ]
+le_at (fin false m e) nan a c b d C D h k = elim k [ ]
+le_at (fin false m e) (inf _) a c b d C D h k = elim k [ ]
 le_at (fin true m e) y a c b d C D h k = absurd (true≢false h.0)
 le_at (fin false m e) (fin true n g) a c b d C D h k = absurd (true≢false k.0)
 le_at (fin false m e) (fin false n g) a c b d C D h k =

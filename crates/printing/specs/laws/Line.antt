@@ -1,6 +1,6 @@
 -- Text put into a line: one after another, and that the line then holds a text that fits it. Assumes nothing.
 use Rattle.std.specs.Prelude.{◌≡◌, ℕ, ◌+◌, ◌<◌, ◌≤◌, List, [], ◌∷◌, ◌++◌, length, take, slice_set, refl}
-use Rattle.std.proofs.Common.{arith, add-one, ap, sym, ◌∙◌, append_assoc, append_nil, length-set, take-suc-set, lt-ltb, le-ltb}
+use Rattle.std.proofs.Common.{arith, add-one, ap, sym, ◌∙◌, append_assoc, append-nil, length-set, take-suc-set, lt-ltb, le-ltb}
 use Rattle.printing.specs.Line.{room, after_byte, Line, after_text}
 
 module _ (line : List ℕ) (at b : ℕ) where
@@ -24,7 +24,7 @@ after_both l m xs ys p q = after_append l xs ys ∙ ap (λ (k : Line). after_tex
 up_to_place : (line : List ℕ) (at : ℕ) (text : List ℕ) → length line ≡ room → at + length text ≤ room
     → take (after_text (line, at) text).1 (after_text (line, at) text).0 ≡ take at line ++ text
 unfolding after_text
-up_to_place line at [] e h = sym (append_nil (take at line))
+up_to_place line at [] e h = sym (append-nil (take at line))
 up_to_place line at (b ∷ bs) e h =
     let put : after_text (line, at) (b ∷ bs) ≡ after_text (slice_set line at b, at + 1) bs = ap (λ (l : Line). after_text l bs) (byte_put line at b (omega arith)) in
     let p : at < length line = omega arith in

@@ -1,7 +1,7 @@
 -- Whole amperes below 2 ^ 53, as `query` gives them, are printed as themselves.
 use Rattle.std.specs.Prelude.{◌≡◌, ℕ, ◌+◌, ◌-◌, ◌*◌, ◌/◌, ◌^◌, ◌<◌, ◌≤◌, true, false, nat_le, nat_lt, refl, Float}
 use Rattle.std.proofs.Common.{sym, ap, ◌∙◌, true≢false, mul-one, mul-div_cancel, mul-lt-mul_of_pos_right, arith, lt-ltb}
-use Rattle.std.specs.Float.{fin}
+use Rattle.std.specs.Float.{fin, nan, inf}
 use Rattle.std.specs.Float.Ieee.{lt, to_unsigned, up, down}
 use Rattle.std.specs.Float.Ieee.Fits.{down_pos}
 use Rattle.std.specs.Float.Ieee.Exact.{HasValue}
@@ -16,6 +16,8 @@ use Rattle.printing.specs.laws.Printed.{amount_on, figures_text}
 
 value_whole : (x : Float) (n : ℕ) → n < 2 ^ 64 → HasValue x false n 1 → whole_of x ≡ n
 unfolding lt to_unsigned
+value_whole nan n h v = elim v [ ]
+value_whole (inf _) n h v = elim v [ ]
 value_whole (fin true m e) n h v = absurd (true≢false v.0)
 value_whole (fin false m e) n h v =
     let size : m * up e ≡ n * down e = sym (mul-one (m * up e)) ∙ v.1 in

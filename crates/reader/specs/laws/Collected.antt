@@ -1,6 +1,6 @@
 -- The numbers of a row as the reader collects them are those of its fields. Assumes nothing.
 use Rattle.std.specs.Prelude.{◌≡◌, refl, true, ◌&&◌, List, [], ◌∷◌, ◌++◌, ℕ, ◌+◌, ◌≤◌, leb, ltb, length, take, set, replicate}
-use Rattle.std.proofs.Common.{sym, ◌∙◌, append_assoc, append_nil, arith, add-one, leb-true, leb-false, le-leb, ltb-true, ltb-false, length-set, take-suc-set, get_or-set_other}
+use Rattle.std.proofs.Common.{sym, ◌∙◌, append_assoc, append-nil, arith, add-one, leb-true, leb-false, le-leb, ltb-true, ltb-false, length-set, take-suc-set, get_or-set_other}
 use Rattle.std.proofs.lemmas.Bool.{lt-leb}
 use Rattle.std.proofs.lemmas.List.{length-replicate, get_or-replicate}
 use Rattle.std.proofs.Math.ListN.{get_or-eq_default}
@@ -32,7 +32,7 @@ after : (fs : List (List ℕ)) (count : ℕ) (values : List ℕ) → count ≤ m
 after [] count values h w z = record {
   tested = sym (le-leb (count + 0) most_fields (omega arith));
   few = h;
-  same = λ _. sym (append_nil (take count values));
+  same = λ _. sym (append-nil (take count values));
   filled = z;
 }
 after (f ∷ fs) count values h w z = go (number_of f) refl (after fs (count + 1))

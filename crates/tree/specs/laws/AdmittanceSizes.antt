@@ -109,7 +109,7 @@ over_most : (Q P : ℕ) (joins : ℕ → Bool) (f : ℕ → Point) (x : Point) (
     → AtMost Q (k + P * m) (sum_over sum joins f x m)
 over_most Q P joins f x k zero r h = most_more Q k (k + P * 0) x (omega arith) r
 over_most Q P joins f x k (suc m) r h =
-    most_more Q (k + P + P * m) _ _ (omega (arith, mul-suc P m)) (over_most Q P joins f _ (k + P) m (go (joins m) refl) (λ i l. h i (omega arith)))
+    most_more Q (k + P + P * m) _ _ (omega (arith, mul-suc P m)) (over_most Q P joins f (cond (joins m) (sum x (f m)) x) (k + P) m (go (joins m) refl) (λ i l. h i (omega arith)))
   where
     go : (t : Bool) → joins m ≡ t → AtMost Q (k + P) (cond t (sum x (f m)) x)
     go true e = most_sum Q _ _ _ _ r (h m (omega arith) e)

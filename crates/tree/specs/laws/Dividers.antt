@@ -91,6 +91,7 @@ module _ (k : ℕ) (z x : Point) (z' x' : Complex) (l : k ≤ 1000000) (near-x :
   some_units zero u N m z h g = absurd (none u N m z h (omega arith))
     where
       none : (u N m : ℕ) → 0 < u → u * u ≤ 2 * (N * (m * m)) → N ≡ 0 → ⊥
+      none zero N m z h e = elim z [ ]
       none (suc u) N m z h e = omega (arith, rw e at h)
   some_units (suc n) u N m z h g = omega arith
 
@@ -174,6 +175,7 @@ sum_some x y z e = ne_eqb _ 0 (λ q. eqb-false (y.re + y.im) 0 e (no_right x.re 
     no_right a b d r i e z h = gathered d r i z (omega (arith, mul_comm r d, mul_comm i d))
       where
         gathered : (d r i : ℕ) → 0 < d → r * d + i * d ≡ 0 → r + i ≡ 0
+        gathered zero r i z h = elim z [ ]
         gathered (suc d) r i z h = omega arith
 
 by_one : (s m : ℕ) → s ≤ m → s * 1 ≤ m

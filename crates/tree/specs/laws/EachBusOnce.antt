@@ -1,7 +1,7 @@
 -- A walk that changes nothing on its way gathers every bus exactly once, from wherever it starts.
 -- Assumes nothing.
 use Rattle.std.specs.Prelude.{ℕ, zero, suc, ◌+◌, ◌*◌, ◌≤◌, ◌<◌, ◌≡◌, refl, Bool, true, false, cond, ltb, eqb}
-use Rattle.std.proofs.Common.{sym, ◌∙◌, ap, ⊎_elim, arith, ltb-true, ltb-false, lt-ltb, le-ltb, eqb-true, eq-eqb, ne_eqb}
+use Rattle.std.proofs.Common.{sym, ◌∙◌, ap, subst, ⊎_elim, arith, ltb-true, ltb-false, lt-ltb, le-ltb, eqb-true, eq-eqb, ne_eqb}
 use Rattle.std.proofs.lemmas.Bool.{eqb-false}
 use Rattle.tree.specs.laws.Sums.{sums}
 use Rattle.tree.specs.Grid.{joined, neighbour, sum_over, Gather, walk}
@@ -155,7 +155,7 @@ module _ (p : ℕ → ℕ) (D k : ℕ) (room : 2 * D < suc k) where
 
       go : (s : Bool) → ltb b n ≡ s → walk (plain f) p (suc n) (suc (suc k)) b b ≡ sums f (suc n)
       go true e = below b (ltb-true b n e)
-      go false e = let q : b ≡ n = omega (arith, ltb-false b n e) in rw q last
+      go false e = let q : b ≡ n = omega (arith, ltb-false b n e) in subst (λ (c : ℕ). walk (plain f) p (suc n) (suc (suc k)) c c ≡ sums f (suc n)) (sym q) last
 
   -- EVERY BUS ONCE, from wherever the walk starts
   total : (n : ℕ) → Tree p n D (λ i. i) → (f : ℕ → ℕ) (b : ℕ) → b < n → walk (plain f) p n (suc (suc k)) b b ≡ sums f n

@@ -22,7 +22,7 @@ through_proper G b i y = through_cases exact (λ j. (G.branch j).z) G b i y (λ 
 
 over_proper : (joins : ℕ → Bool) (f : ℕ → Point) (x : Point) (m : ℕ) → 0 < x.den → ((i : ℕ) → 0 < (f i).den) → 0 < (sum_over sum joins f x m).den
 over_proper joins f x zero z h = z
-over_proper joins f x (suc m) z h = over_proper joins f _ m (go (joins m)) h
+over_proper joins f x (suc m) z h = over_proper joins f (cond (joins m) (sum x (f m)) x) m (go (joins m)) h
   where
     go : (s : Bool) → 0 < (cond s (sum x (f m)) x).den
     go true = mul-pos z (h m)
@@ -55,7 +55,7 @@ fed_inverse x h = go (is_nothing x) refl
 
 pub over_start : (joins : ℕ → Bool) (f : ℕ → Point) (x : Point) (m : ℕ) → Fed x → ((i : ℕ) → 0 < (f i).den) → Fed (sum_over sum joins f x m)
 over_start joins f x zero g h = g
-over_start joins f x (suc m) g h = over_start joins f _ m (go (joins m)) h
+over_start joins f x (suc m) g h = over_start joins f (cond (joins m) (sum x (f m)) x) m (go (joins m)) h
   where
     go : (s : Bool) → Fed (cond s (sum x (f m)) x)
     go true = fed_left x (f m) g (h m)

@@ -148,7 +148,7 @@ module _ {A B : Type 0} (G : Gather A) (H : Gather B) (p : ℕ → ℕ) (n : ℕ
   over_related : (b : ℕ) → b < n → (joins : ℕ → Bool) (f : ℕ → A) (g : ℕ → B) (x : A) (y : B) (m : ℕ) → R b x y
       → ((i : ℕ) → i < m → joins i ≡ true → R b (f i) (g i)) → R b (sum_over G.add joins f x m) (sum_over H.add joins g y m)
   over_related b l joins f g x y zero r h = r
-  over_related b l joins f g x y (suc m) r h = over_related b l joins f g _ _ m (go (joins m) refl) (λ i s. h i (omega arith))
+  over_related b l joins f g x y (suc m) r h = over_related b l joins f g (cond (joins m) (G.add x (f m)) x) (cond (joins m) (H.add y (g m)) y) m (go (joins m) refl) (λ i s. h i (omega arith))
     where
       go : (s : Bool) → joins m ≡ s → R b (cond s (G.add x (f m)) x) (cond s (H.add y (g m)) y)
       go true e = adds b _ _ _ _ l r (h m (omega arith) e)

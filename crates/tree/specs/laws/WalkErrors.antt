@@ -26,7 +26,7 @@ module _ {A B : Type 0} (add : A → A → A) (add' : B → B → B) (In : ℕ �
       let p = mul-suc a m in
       let r = mul-suc e m in
       let w = one j k k₀ x (f m) y (g m) (joins m) d (omega arith) (omega arith) h (q m (omega arith)) in
-      let v = over_inside joins f g _ _ (j + e) (k + a) k₀ m (omega arith) (omega arith) (omega arith) w (λ i s. q i (omega arith)) in
+      let v = over_inside joins f g (cond (joins m) (add x (f m)) x) (cond (joins m) (add' y (g m)) y) (j + e) (k + a) k₀ m (omega arith) (omega arith) (omega arith) w (λ i s. q i (omega arith)) in
       (in_more (j + e + e * m) _ _ (omega arith) v.0, more (k + a + a * m) _ _ _ (omega arith) v.1)
 
   pub sum_inside : {S : Type 0} (t : S → Bool) (f : S → A) (g : S → B) (d : S) (k₀ : ℕ) (l : List S)
