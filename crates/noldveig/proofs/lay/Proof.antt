@@ -1,7 +1,7 @@
 -- `noldveig::lay` meets its contract. The invariant: behind what stood before the place stand the bytes that were passed. The measure is the
 -- number of bytes that are left. Assumes nothing.
 use mathlib.Core.Path.{◌≡◌, refl, sym, ap, ◌∙◌}
-use mathlib.Core.List.{List, ◌++◌, append_assoc, append_nil}
+use mathlib.Core.List.{List, ◌++◌, append_assoc, append-nil}
 use Prim.Native.Nat.{ℕ, suc, ◌+◌, ◌-◌, ◌≤◌, ◌<◌}
 use native.Mathlib.Omega.{arith}
 use lib.ListN.{length, take, get_or, set, length-set}
@@ -27,7 +27,7 @@ decreases-loop out₀ at bytes i₀ out i = length bytes - i
 loop-holds : tie.Need-loop-init invariant-loop decreases-loop
 loop-holds c =
     let s : c.args.at + 0 ≡ c.args.at = omega arith in
-    (refl, (omega arith, rw (s, append_nil)))
+    (refl, (omega arith, rw (s, append-nil)))
 
 shared-slice-read-out : tie.Need-shared-slice-read-out invariant-loop decreases-loop
 shared-slice-read-out c = omega arith
