@@ -1,15 +1,7 @@
 -- A record stored behind those that are counted is an addition; and additions one after the other: the next one, and what all of them
 -- come to as it stands before and after it.
-use mathlib.Core.Path.{◌≡◌, sym}
-use mathlib.Core.Bool.{Bool, true, ◌&&◌}
-use mathlib.Core.List.{List, ◌∷◌}
-use Prim.Native.Nat.{ℕ, ◌+◌, ◌≤◌, ◌<◌}
-use native.Mathlib.Omega.{arith}
-use native.Mathlib.Numerals.{add-one}
-use borrow.Author.Tests.{ne_eqb, ltb-true}
-use lib.Dec.{ltb}
-use lib.ListN.{length, set, take, drop, get_or, length-take, drop_of_length-le}
-use lib.Seq.{drop-cons, get_or-take}
+use Rattle.std.specs.Prelude.{◌≡◌, Bool, true, ◌&&◌, List, ◌∷◌, ℕ, ◌+◌, ◌≤◌, ◌<◌, ltb, length, set, take, drop, get_or}
+use Rattle.std.proofs.Common.{sym, arith, add-one, ne_eqb, ltb-true, length-take, drop_of_length-le, drop-cons, get_or-take}
 use Rattle.tree.specs.Limits.{max_buses, max_sources}
 use Rattle.network.specs.declared.study.Bus.{Bus}
 use Rattle.network.specs.declared.study.Source.{Source}

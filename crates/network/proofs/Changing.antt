@@ -1,10 +1,6 @@
 -- The study whose sources are moved up or written over, as a network.
-use mathlib.Core.Path.{◌≡◌, sym, ◌∙◌, ap}
-use mathlib.Core.Bool.{true}
-use mathlib.Core.List.{List}
-use Prim.Native.Nat.{ℕ, suc, ◌+◌, ◌≤◌, ◌<◌, min}
-use native.Mathlib.Omega.{arith}
-use lib.ListN.{length, set, take, length-take}
+use Rattle.std.specs.Prelude.{◌≡◌, true, List, ℕ, suc, ◌+◌, ◌≤◌, ◌<◌, min, length, set, take}
+use Rattle.std.proofs.Common.{sym, ◌∙◌, ap, arith, length-take}
 use Rattle.tree.specs.Limits.{max_sources}
 use Rattle.network.specs.declared.study.Source.{Source}
 use Rattle.network.specs.declared.study.Study.{Study}

@@ -1,14 +1,10 @@
 -- Arrays that a loop fills: record by record, and by adding up what stands at each bus.
-use mathlib.Core.Path.{◌≡◌, refl, sym, ◌∙◌, ap, ap₂}
-use mathlib.Core.Bool.{Bool, true, false, cond, ◌&&◌}
-use mathlib.Core.List.{List, []}
-use Prim.Native.Nat.{ℕ, ◌+◌, ◌≤◌, ◌<◌}
-use native.Mathlib.Omega.{arith}
-use lib.Dec.{eqb, ltb}
-use lib.Ieee.{Float, nan}
-use lib.ListN.{length, take, set, get_or, replicate, length-take, length-set, length-replicate, get_or-replicate, get_or-eq_default}
-use lib.Seq.{take_all, get_or-take, get_or-set_same, get_or-set_other}
-use borrow.Author.Tests.{eqb-true, eqb-false, eq-eqb, ltb-true, ltb-false, lt-ltb}
+use Rattle.std.specs.Prelude.{◌≡◌, refl, Bool, true, false, cond, ◌&&◌, List, [], ℕ, ◌+◌, ◌≤◌, ◌<◌, eqb, ltb, Float, length, take, set, get_or, replicate}
+use Rattle.std.proofs.Common.{sym, ◌∙◌, ap, ap₂, arith, length-take, length-set, take_all, get_or-take, get_or-set_same, get_or-set_other, eqb-true, eq-eqb, ltb-true, ltb-false, lt-ltb}
+use Rattle.std.specs.Float.{nan}
+use Rattle.std.proofs.Math.ListN.{get_or-eq_default}
+use Rattle.std.proofs.lemmas.Bool.{eqb-false}
+use Rattle.std.proofs.lemmas.List.{length-replicate, get_or-replicate}
 use Rattle.enclosure.specs.declared.Complex.{Complex}
 use Rattle.enclosure.specs.Doubles.{nought, none, added}
 use Rattle.tree.specs.Grid.{sum_of}

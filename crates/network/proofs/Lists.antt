@@ -1,15 +1,8 @@
 -- The records that are counted, as the first ones of the array that holds them.
-use mathlib.Core.Path.{◌≡◌, refl, sym, ap}
-use mathlib.Core.List.{List, [], ◌∷◌, ◌++◌}
-use Prim.Native.Nat.{ℕ, zero, suc, ◌+◌, ◌≤◌, ◌<◌}
-use native.Mathlib.Omega.{arith}
-use native.Mathlib.Numerals.{add-one}
-use lib.Dec.{ltb}
-use borrow.Author.Tests.{ltb-true, ltb-false, lt-ltb, le-ltb}
-use mathlib.Core.Bool.{◌&&◌}
+use Rattle.std.specs.Prelude.{◌≡◌, refl, List, [], ◌∷◌, ◌++◌, ℕ, zero, suc, ◌+◌, ◌≤◌, ◌<◌, ltb, ◌&&◌, length, take, set, get_or}
+use Rattle.std.proofs.Common.{sym, ap, arith, add-one, ltb-true, ltb-false, lt-ltb, le-ltb, length-take, take-suc-set, get_or-take}
+use Rattle.std.proofs.Math.ListN.{get_or-eq_default}
 use Rattle.network.specs.laws.Tests.{by_test}
-use lib.ListN.{length, take, set, get_or, length-take, get_or-eq_default}
-use lib.Seq.{take-suc-set, get_or-take}
 use Rattle.network.specs.Network.{removed}
 pub use Rattle.network.specs.laws.Arrays.{length_mapped}
 

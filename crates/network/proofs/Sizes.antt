@@ -1,7 +1,6 @@
 -- Whole bounds stay at most 2 ^ 53, whatever they bound.
-use mathlib.Core.Bool.{Bool, true, false, cond}
-use Prim.Native.Nat.{ℕ, ◌+◌, ◌^◌, ◌≤◌}
-use native.Mathlib.Omega.{arith}
+use Rattle.std.specs.Prelude.{Bool, true, false, cond, ℕ, ◌+◌, ◌^◌, ◌≤◌}
+use Rattle.std.proofs.Common.{arith}
 use Rattle.enclosure.specs.declared.Complex.{Complex}
 use Rattle.enclosure.specs.Doubles.{empty, size_below, lower_of, upper_of}
 use Rattle.enclosure.specs.laws.Climb.{size_small}

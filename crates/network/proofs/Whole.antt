@@ -1,7 +1,6 @@
 -- An ampere is its number, where that is at most 2 ^ 53.
-use mathlib.Core.Path.{◌≡◌, ap, ◌∙◌}
-use Prim.Native.Nat.{ℕ, ◌^◌, ◌≤◌}
-use lib.Ieee.{Float}
+use Rattle.std.specs.Prelude.{◌≡◌, ℕ, ◌^◌, ◌≤◌, Float}
+use Rattle.std.proofs.Common.{ap, ◌∙◌}
 use Rattle.enclosure.specs.declared.amperes.Rms.{Rms}
 use Rattle.enclosure.specs.declared.amperes.Peak.{Peak}
 use Rattle.enclosure.specs.Exact.{of_nat}

@@ -1,6 +1,6 @@
 -- The digits that `io::decimal` gives are those of `decimal`.
 use Rattle.std.proofs.Common.{◌≡◌, ℕ, zero, suc, ◌+◌, ◌-◌, ◌*◌, ◌/◌, ◌%◌, ◌^◌, ◌<◌, ◌≤◌, leb, List, [], ◌∷◌, ◌++◌, ap, mod-lt, mod-eq_of_lt, div-lt_iff_lt-mul, pow-suc, le-div_iff_mul-le, arith, le-ltb, lt-ltb, leb-false, leb-true}
-use native.Mathlib.Nat.{one-le-pow, pow-le-pow_right}
+use Rattle.std.proofs.Math.Nat.{one-le-pow, pow-le-pow_right}
 use Rattle.network.specs.laws.Tests.{by_test}
 use Rattle.io.specs.Digits.{last_digits, hex_digit_ascii, IsDigitCount}
 use Rattle.printing.specs.Printed.{digits_of, decimal}

@@ -1,14 +1,7 @@
 -- What the byte at a place says of the bytes from there on: of a line end, a comma, a digit.
-use mathlib.Core.Path.{◌≡◌}
-use mathlib.Core.Bool.{true, false, ◌&&◌}
-use mathlib.Core.List.{List, [], ◌∷◌}
-use Prim.Native.Nat.{ℕ, suc, ◌+◌, ◌*◌, ◌-◌, ◌^◌, ◌≤◌, ◌<◌}
-use native.Mathlib.Omega.{arith}
-use native.Mathlib.Numerals.{add-one}
-use borrow.Author.Tests.{lt-ltb, le-ltb, le-leb, lt-leb}
-use lib.Dec.{eqb}
-use lib.ListN.{length, drop, get_or, drop_of_length-le}
-use lib.Seq.{drop-cons}
+use Rattle.std.specs.Prelude.{◌≡◌, true, false, ◌&&◌, List, [], ◌∷◌, ℕ, suc, ◌+◌, ◌*◌, ◌-◌, ◌^◌, ◌≤◌, ◌<◌, eqb, length, drop, get_or}
+use Rattle.std.proofs.Common.{arith, add-one, lt-ltb, le-ltb, le-leb, drop_of_length-le, drop-cons}
+use Rattle.std.proofs.lemmas.Bool.{lt-leb}
 use Rattle.network.specs.laws.Tests.{by_test}
 use Rattle.reader.specs.declared.Number.TheVariants.{Value, Broken}
 use Rattle.reader.specs.File.{cr, lf, comma, digit0, digit9, digits, digits_value, value_of}

@@ -1,12 +1,9 @@
 -- The numbers of a row, collected field by field: what holds at each place where a field begins, and what that gives at the end.
-use mathlib.Core.Path.{◌≡◌, ◌∙◌}
-use mathlib.Core.Bool.{true, false}
-use mathlib.Core.List.{List, [], ◌∷◌}
-use Prim.Native.Nat.{ℕ, ◌+◌, ◌≤◌, ◌<◌}
-use native.Mathlib.Omega.{arith}
-use borrow.Author.Tests.{le-leb, lt-leb}
-use lib.Dec.{leb-zero}
-use lib.ListN.{length, drop, set, replicate, length-set, length-replicate, length-drop}
+use Rattle.std.specs.Prelude.{◌≡◌, true, false, List, [], ◌∷◌, ℕ, ◌+◌, ◌≤◌, ◌<◌, length, drop, set, replicate}
+use Rattle.std.proofs.Common.{◌∙◌, arith, le-leb, length-set, length-drop}
+use Rattle.std.proofs.Math.Dec.{leb-zero}
+use Rattle.std.proofs.lemmas.Bool.{lt-leb}
+use Rattle.std.proofs.lemmas.List.{length-replicate}
 use Rattle.reader.specs.declared.Number.TheVariants.{Value, Broken}
 use Rattle.reader.specs.File.{most_fields, fields, number_of}
 use Rattle.reader.specs.Stretches.{at_comma, stretch}

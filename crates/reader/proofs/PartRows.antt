@@ -1,12 +1,6 @@
 -- A part of the rows behind the first: its rows as additions, one more of them, and what additions and the rows behind them come to.
-use mathlib.Core.Path.{◌≡◌, refl, sym, ◌∙◌, ap, subst}
-use mathlib.Core.Bool.{false, cond}
-use mathlib.Core.List.{List, [], ◌∷◌, ◌++◌}
-use Prim.Native.Nat.{ℕ, ◌+◌, ◌-◌, ◌<◌}
-use native.Mathlib.Omega.{arith}
-use borrow.Author.Tests.{ne_eqb}
-use lib.Dec.{eqb}
-use lib.ListN.{length, take, drop}
+use Rattle.std.specs.Prelude.{◌≡◌, refl, false, cond, List, [], ◌∷◌, ◌++◌, ℕ, ◌+◌, ◌-◌, ◌<◌, eqb, length, take, drop}
+use Rattle.std.proofs.Common.{sym, ◌∙◌, ap, subst, arith, ne_eqb}
 use Rattle.network.specs.declared.additions.Entry.{Entry}
 use Rattle.network.specs.Network.{Network}
 use Rattle.network.specs.Additions.{addition_number, after_addition, AddedNetwork, added_from}

@@ -1,13 +1,7 @@
 -- From a row's bytes to what it says: its letter, its comma, and the numbers after them.
-use mathlib.Core.Path.{◌≡◌, refl, ap, sym, ◌∙◌}
-use mathlib.Core.Bool.{Bool, true, false, ◌&&◌, ◌||◌}
-use mathlib.Core.List.{List, [], ◌∷◌}
-use Prim.Native.Nat.{ℕ, ◌≤◌, ◌<◌}
-use native.Mathlib.Omega.{arith}
-use borrow.Author.Tests.{eq-eqb, ne_eqb, leb-false, ltb-true, ltb-false}
-use lib.Dec.{leb, ltb, eqb}
-use lib.ListN.{length, take, drop, get_or, length-take, get_or-eq_default}
-use lib.Seq.{length-take-le, get_or-take}
+use Rattle.std.specs.Prelude.{◌≡◌, refl, Bool, true, false, ◌&&◌, ◌||◌, List, [], ◌∷◌, ℕ, ◌≤◌, ◌<◌, leb, ltb, eqb, length, take, drop, get_or}
+use Rattle.std.proofs.Common.{ap, sym, ◌∙◌, arith, eq-eqb, ne_eqb, leb-false, ltb-true, ltb-false, length-take, length-take-le, get_or-take}
+use Rattle.std.proofs.Math.ListN.{get_or-eq_default}
 use Rattle.network.specs.laws.Tests.{by_test, both_true}
 use Rattle.reader.specs.declared.Numbers.{Numbers}
 use Rattle.reader.specs.declared.Row.TheVariants.{Start, WithBus, WithSource, Malformed}

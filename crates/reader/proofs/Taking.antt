@@ -1,12 +1,6 @@
 -- The rows of a text taken one after the other: the next row, and the outcome as it stands before and after it.
-use mathlib.Core.Path.{◌≡◌}
-use mathlib.Core.List.{List, [], ◌∷◌}
-use Prim.Native.Nat.{ℕ, ◌+◌, ◌-◌, ◌≤◌, ◌<◌}
-use native.Mathlib.Omega.{arith}
-use borrow.Author.Tests.{ne_eqb}
-use lib.Dec.{eqb}
-use lib.ListN.{length, take, drop, length-drop, drop_of_length-le}
-use lib.Seq.{drop-drop}
+use Rattle.std.specs.Prelude.{◌≡◌, List, [], ◌∷◌, ℕ, ◌+◌, ◌-◌, ◌≤◌, ◌<◌, eqb, length, take, drop}
+use Rattle.std.proofs.Common.{arith, ne_eqb, length-drop, drop_of_length-le, drop-drop}
 use Rattle.network.specs.Network.{Network}
 use Rattle.network.specs.Grounds.{close_number, after_close}
 use Rattle.reader.specs.declared.Row.{Row}

@@ -1,11 +1,8 @@
 -- THE ANSWER TO `breaking`: the decimals of an accepted call are those of the whole numbers that keep order 3, the figure and each source's
 -- two bounds in source order, and behind these stand the numbers as they were lent. Assumes nothing.
-use Prim.Native.Nat.{ℕ, zero, suc, ◌+◌, ◌*◌, ◌^◌, ◌≤◌, ◌<◌}
-use Rattle.std.specs.Prelude.{◌≡◌, drop, get_or, Float}
+use Rattle.std.specs.Prelude.{◌≡◌, drop, get_or, Float, ℕ, zero, suc, ◌+◌, ◌*◌, ◌^◌, ◌≤◌, ◌<◌, List, [], ◌∷◌, ◌++◌}
+use Rattle.std.proofs.Common.{sym, ◌∙◌, take-append-drop, drop-cons, append-nil, arith}
 use Rattle.std.proofs.Math.Path.{refl, ap}
-use Rattle.std.proofs.Common.{sym, ◌∙◌, take-append-drop, drop-cons}
-use mathlib.Core.List.{List, [], ◌∷◌, ◌++◌, append-nil}
-use native.Mathlib.Omega.{arith}
 use Rattle.std.proofs.Math.ListN.{length, take}
 use Rattle.std.proofs.Math.Seq.{take-add}
 use Rattle.std.specs.Float.{nan}

@@ -1,9 +1,8 @@
 -- Laws of effects: which of its cases the effect of a line is. Assumes nothing.
-use Rattle.std.specs.Prelude.{ℕ, ◌+◌, ◌/◌, ◌≤◌, ◌<◌, refl, Bool, cond, ◌&&◌, drop, get_or, replicate, Float}
-use Rattle.std.proofs.Math.Path.{◌≡◌, sym}
+use Rattle.std.specs.Prelude.{ℕ, ◌+◌, ◌/◌, ◌≤◌, ◌<◌, refl, Bool, cond, ◌&&◌, drop, get_or, replicate, Float, List}
 use Rattle.std.proofs.Common.{◌∙◌, ap, arith, get_or-drop, leb-true, leb-false, le-leb, lt-ltb, le-ltb}
+use Rattle.std.proofs.Math.Path.{◌≡◌, sym}
 use Rattle.std.proofs.Math.Bool.{true, false}
-use mathlib.Core.List.{List}
 use Rattle.std.proofs.Math.Dec.{leb}
 use Rattle.std.proofs.Math.ListN.{length, take}
 use Rattle.std.proofs.lemmas.Bool.{lt-leb}

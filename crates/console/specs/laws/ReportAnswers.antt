@@ -1,10 +1,8 @@
 -- THE ANSWER TO `report`: the decimals of an accepted call are those of the six whole numbers of each bus that keep demand 3, from bus 0 up,
 -- and behind these stand the numbers as they were lent. Assumes nothing.
-use Prim.Native.Nat.{ℕ, zero, suc, ◌+◌, ◌*◌, ◌≤◌, ◌<◌}
-use Rattle.std.specs.Prelude.{◌≡◌, Bool, true, false, List, [], ◌∷◌, ◌++◌, drop, ltb, Float}
+use Rattle.std.specs.Prelude.{◌≡◌, Bool, true, false, List, [], ◌∷◌, ◌++◌, drop, ltb, Float, ℕ, zero, suc, ◌+◌, ◌*◌, ◌≤◌, ◌<◌}
+use Rattle.std.proofs.Common.{sym, ◌∙◌, append-nil, append_assoc, take-append-drop, drop-cons, ltb-true, ltb-false, arith}
 use Rattle.std.proofs.Math.Path.{refl, ap}
-use Rattle.std.proofs.Common.{sym, ◌∙◌, append-nil, append_assoc, take-append-drop, drop-cons, ltb-true, ltb-false}
-use native.Mathlib.Omega.{arith}
 use Rattle.std.proofs.Math.ListN.{length, take}
 use Rattle.std.proofs.Math.Seq.{take-add}
 use Rattle.std.specs.Float.{nan}

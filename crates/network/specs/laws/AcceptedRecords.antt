@@ -1,8 +1,8 @@
 -- What every network that calls can make keeps (`run_rebuilt`), as facts about its numbers. Each law takes the invariant first.
 use Rattle.std.specs.Prelude.{◌≡◌, true, not, ◌||◌, ◌⊎◌, ℕ, ◌+◌, ◌*◌, ◌≤◌, ◌<◌, leb, eqb, length}
+use Rattle.std.proofs.Common.{inl, inr, arith, leb-true, ltb-true, eqb-true}
+use Rattle.std.proofs.lemmas.Bool.{eqb-false}
 use Rattle.std.proofs.Math.Path.{refl}
-use Rattle.std.proofs.Common.{inl, inr, arith}
-use borrow.Author.Tests.{leb-true, ltb-true, eqb-true, eqb-false}
 use Rattle.network.specs.declared.study.Bus.{Bus}
 use Rattle.network.specs.declared.study.Source.{Source}
 use Rattle.network.specs.Records.{in_range, all, line_tests, transformer_tests, branch_ok, rated_ok}

@@ -1,11 +1,9 @@
 -- What acceptance gives of a network's tree: its shape, its voltages, and how near and how large each element is.
 -- Assumes nothing.
-use Prim.Native.Nat.{ℕ, suc, ◌+◌, ◌*◌, ◌^◌, min, ◌≤◌, ◌<◌}
-use Rattle.std.specs.Prelude.{◌≡◌, Bool, true, false, cond, [], ◌∷◌, ltb, length}
+use Rattle.std.specs.Prelude.{◌≡◌, Bool, true, false, cond, [], ◌∷◌, ltb, length, ℕ, suc, ◌+◌, ◌*◌, ◌^◌, min, ◌≤◌, ◌<◌}
+use Rattle.std.proofs.Common.{subst, le_trans, mul-le-mul, mul-pos, lit≤, eqb-true, ne_eqb, arith}
 use Rattle.std.proofs.Math.Path.{refl}
-use Rattle.std.proofs.Common.{subst, le_trans, mul-le-mul, mul-pos, lit≤, eqb-true, ne_eqb}
 use Rattle.std.proofs.Math.Logic.{inr, ⊎_elim}
-use native.Mathlib.Omega.{arith}
 use Rattle.std.proofs.Math.Numerals.{add-one}
 use Rattle.std.proofs.Math.Dec.{lit<}
 use Rattle.algebra.specs.Reading.{from, read, ◌⊹◌, ◌⋆◌}

@@ -1,7 +1,6 @@
 -- What a query gives in each of its cases. Assumes nothing.
 use Rattle.std.specs.Prelude.{ℕ, ◌≤◌, ◌<◌, ◌≡◌, true, false, length}
-use Rattle.std.proofs.Common.{◌∙◌, ap, ap₂}
-use borrow.Author.Tests.{lt-ltb, le-ltb}
+use Rattle.std.proofs.Common.{◌∙◌, ap, ap₂, lt-ltb, le-ltb}
 use Rattle.elements.specs.Factors.{factor_c}
 use Rattle.network.specs.declared.study.Bus.{Bus}
 use Rattle.network.specs.declared.query.Amperes.{Amperes}

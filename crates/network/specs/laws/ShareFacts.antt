@@ -2,9 +2,8 @@
 -- voltage can be, how far rated ratios are from nominal ones where only transformers count, and that a share fits an f64.
 -- Assumes nothing.
 use Rattle.std.specs.Prelude.{ℕ, ◌+◌, ◌*◌, ◌^◌, ◌≤◌, ◌<◌, ◌≡◌, refl, true, false, [], ◌∷◌, length}
-use Rattle.std.proofs.Common.{sym, inl, inr, le_refl, le_trans, lt_of_not-le, mul-le-mul, mul-pos, lit<, lit≤, ne_eqb}
+use Rattle.std.proofs.Common.{sym, inl, inr, le_refl, le_trans, lt_of_not-le, mul-le-mul, mul-pos, lit<, lit≤, ne_eqb, arith}
 use Rattle.std.proofs.Math.Logic.{⊎_elim}
-use native.Mathlib.Omega.{arith}
 use Rattle.std.proofs.Math.Nat.{min-eq_left}
 use Rattle.algebra.specs.Reading.{poly, from, from_over, read, ◌⊹◌, ◌⋆◌}
 use Rattle.enclosure.specs.Exact.{Point, times, is_nothing}

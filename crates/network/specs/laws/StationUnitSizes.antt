@@ -1,8 +1,7 @@
 -- How large and how small the exact impedance of a power station unit is, from its calculated form: what ElementSizes has for the other
 -- machines. Over plain numbers in document 02's ranges. Assumes nothing.
 use Rattle.std.specs.Prelude.{ℕ, ◌+◌, ◌*◌, ◌^◌, ◌≤◌, ◌<◌, refl, [], ◌∷◌}
-use native.Mathlib.Omega.{arith}
-use Rattle.std.proofs.Common.{le_refl, le_trans, mul-le-mul, lit<, lit≤}
+use Rattle.std.proofs.Common.{le_refl, le_trans, mul-le-mul, lit<, lit≤, arith}
 use Rattle.std.proofs.Math.Nat.{mul-pos}
 use Rattle.algebra.specs.Reading.{from, from_over, read, ◌⊹◌, ◌⋆◌}
 use Rattle.enclosure.specs.Exact.{Point}

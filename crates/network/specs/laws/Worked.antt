@@ -1,8 +1,7 @@
 -- Document 01's worked network of two buses, by computing the definitions; its verdict follows from demand 3 alone.
 -- Assumes nothing.
 use Rattle.std.specs.Prelude.{ℕ, ◌+◌, ◌*◌, ◌≤◌, ◌<◌, ◌≡◌, refl, true, List, [], ◌∷◌, Float}
-use Rattle.std.proofs.Common.{sym, ◌∙◌, ap, lt_of_not-le, eqb→eq, leb→le, le→leb, ltb→lt, lit<, le-ltb}
-use native.Mathlib.Omega.{arith}
+use Rattle.std.proofs.Common.{sym, ◌∙◌, ap, lt_of_not-le, eqb→eq, leb→le, le→leb, ltb→lt, lit<, le-ltb, arith}
 use Rattle.std.proofs.Math.Nat.{le_dest}
 use Rattle.std.proofs.lemmas.Bool.{lt-leb}
 use Rattle.algebra.specs.Reading.{from, read, ◌⊹◌, ◌⋆◌}

@@ -1,8 +1,7 @@
 -- Each row fits a line. Assumes nothing.
 use Rattle.std.specs.Prelude.{ℕ, ◌+◌, ◌≤◌, ◌≡◌, ◌++◌, length}
+use Rattle.std.proofs.Common.{◌∙◌, add-one, arith, length-append, ne_eqb}
 use Rattle.std.proofs.Math.Path.{sym}
-use Rattle.std.proofs.Common.{◌∙◌, add-one, arith, length-append}
-use borrow.Author.Tests.{ne_eqb}
 use Rattle.network.specs.declared.query.Amperes.{Amperes}
 use Rattle.network.specs.declared.query.Verdict.{Verdict}
 use Rattle.printing.specs.laws.Printed.{decimal_length, next_length, amperes_length, letter_length}

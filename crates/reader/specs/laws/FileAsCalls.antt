@@ -1,8 +1,8 @@
 -- What reading a text leaves, as calls on a study: so whatever is proved of lists of calls holds of texts.
-use Rattle.std.proofs.Math.Path.{◌≡◌, refl}
-use Rattle.std.proofs.Common.{sym, ap, ◌∙◌}
 use Rattle.std.specs.Prelude.{true, List, [], ◌∷◌, ◌++◌, ℕ, ◌+◌, ◌<◌, eqb, length}
-use borrow.Author.Tests.{eqb-true, eqb-false}
+use Rattle.std.proofs.Common.{sym, ap, ◌∙◌, eqb-true}
+use Rattle.std.proofs.lemmas.Bool.{eqb-false}
+use Rattle.std.proofs.Math.Path.{◌≡◌, refl}
 use Rattle.network.specs.Records.{in_range}
 use Rattle.network.specs.Network.{Network}
 use Rattle.network.specs.Grounds.{close_number, after_close, Call, starting, run_from, empty_network, run}

@@ -1,9 +1,6 @@
 -- One step of each sweep, as a loop takes it. Assumes nothing.
-use Prim.Native.Nat.{ℕ, zero, suc, ◌+◌, ◌-◌, ◌≤◌, ◌<◌}
-use Rattle.std.specs.Prelude.{◌≡◌, Bool, true, false}
-use native.Mathlib.Omega.{arith}
-use Rattle.std.proofs.Common.{add-one}
-use borrow.Author.Tests.{le-ltb, lt-ltb}
+use Rattle.std.specs.Prelude.{◌≡◌, Bool, true, false, ℕ, zero, suc, ◌+◌, ◌-◌, ◌≤◌, ◌<◌}
+use Rattle.std.proofs.Common.{add-one, arith, le-ltb, lt-ltb}
 use Rattle.enclosure.specs.declared.Complex.{Complex}
 use Rattle.enclosure.specs.Doubles.{added, doubles}
 use Rattle.tree.specs.Grid.{sum_over, Grid, parent_of, through}

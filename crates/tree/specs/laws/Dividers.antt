@@ -1,10 +1,9 @@
 -- How a current divides over a way: the product of the dividers in f64 is near the exact one, or both are too faint to matter.
 -- Assumes nothing.
-use Prim.Native.Nat.{ℕ, zero, suc, ◌+◌, ◌*◌, ◌^◌, ◌≤◌, ◌<◌}
-use Rattle.std.specs.Prelude.{◌≡◌, Bool, cond, [], ◌∷◌, ltb}
+use Rattle.std.specs.Prelude.{◌≡◌, Bool, cond, [], ◌∷◌, ltb, ℕ, zero, suc, ◌+◌, ◌*◌, ◌^◌, ◌≤◌, ◌<◌}
+use Rattle.std.proofs.Common.{inl, inr, ⊎_elim, arith, le_refl, le_trans, mul-le-mul, mul-pos, mul_comm, lit≤, ne_eqb}
 use Rattle.std.proofs.Math.Path.{refl}
 use Rattle.std.proofs.Math.Bool.{true, false}
-use Rattle.std.proofs.Common.{inl, inr, ⊎_elim, arith, le_refl, le_trans, mul-le-mul, mul-pos, mul_comm, lit≤, ne_eqb}
 use Rattle.std.proofs.lemmas.Bool.{eqb-false}
 use Rattle.std.specs.Float.Ieee.{binary64, div}
 use Rattle.algebra.specs.Polynomial.{two_sq}

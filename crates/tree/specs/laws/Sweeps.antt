@@ -1,10 +1,10 @@
 -- Two sweeps over a tree give what a walk from each bus gives, in the same numbers: one towards bus 0, one away from it.
 -- Assumes nothing.
 use Rattle.std.specs.Prelude.{ℕ, zero, suc, ◌+◌, ◌-◌, ◌≤◌, ◌<◌, ◌≡◌, Bool, ltb, eqb}
+use Rattle.std.proofs.Common.{sym, ◌∙◌, ap, ⊎_elim, arith, lt-ltb, le-ltb, eq-eqb, eqb-true, ne_eqb}
+use Rattle.std.proofs.lemmas.Bool.{eqb-false}
 use Rattle.std.proofs.Math.Path.{refl}
-use Rattle.std.proofs.Common.{sym, ◌∙◌, ap, ⊎_elim, arith}
 use Rattle.std.proofs.Math.Bool.{true, false, cond}
-use borrow.Author.Tests.{lt-ltb, le-ltb, eq-eqb, eqb-true, eqb-false, ne_eqb}
 use Rattle.enclosure.specs.Exact.{Ops}
 use Rattle.tree.specs.Limits.{max_branches, walk_steps}
 use Rattle.tree.specs.Grid.{joined, neighbour, sum_over, walk, Grid, parent_of, Treelike, through, admittances, seen_by}

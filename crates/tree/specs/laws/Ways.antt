@@ -1,9 +1,8 @@
 -- The recursion over a way between two buses: its steps, whatever its fuel, and that it is the same where parents and steps agree.
 -- Assumes nothing.
-use Prim.Native.Nat.{ℕ, zero, suc, ◌+◌, ◌≤◌, ◌<◌}
-use Rattle.std.specs.Prelude.{◌≡◌, Bool, true, false, cond, ltb, eqb, Float}
-use Rattle.std.proofs.Math.Path.{refl, ap}
+use Rattle.std.specs.Prelude.{◌≡◌, Bool, true, false, cond, ltb, eqb, Float, ℕ, zero, suc, ◌+◌, ◌≤◌, ◌<◌}
 use Rattle.std.proofs.Common.{sym, ◌∙◌, arith, ltb-true, ltb-false, lt-ltb, le-ltb, eqb-true, eq-eqb, ne_eqb}
+use Rattle.std.proofs.Math.Path.{refl, ap}
 use Rattle.std.proofs.lemmas.Bool.{eqb-false}
 use Rattle.enclosure.specs.Doubles.{unity, floored}
 use Rattle.tree.specs.Ways.{between_by, between, over_way}

@@ -1,7 +1,8 @@
 -- The three cases of writing: not closed, too short a buffer, accepted.
 use Rattle.std.specs.Prelude.{◌≡◌, true, false, List, ◌++◌, ℕ, ◌≤◌, ◌<◌, length, drop}
+use Rattle.std.proofs.Common.{le-leb, leb-true, eq-eqb, ne_eqb}
+use Rattle.std.proofs.lemmas.Bool.{lt-leb}
 use Rattle.std.proofs.Math.Path.{refl}
-use borrow.Author.Tests.{le-leb, lt-leb, leb-true, eq-eqb, ne_eqb}
 use Rattle.network.specs.Network.{Network}
 use Rattle.network.specs.laws.Acceptance.{ground}
 use Rattle.writer.specs.Text.{text_of}
