@@ -1,7 +1,7 @@
 -- From a near admittance to the machines' bounds and peak, and from a near current to the converters': they keep document 01's comparisons.
 -- Assumes nothing.
 use Rattle.std.specs.Prelude.{ℕ, zero, suc, ◌+◌, ◌-◌, ◌*◌, ◌^◌, ◌≤◌, ◌<◌, ◌≡◌, refl, [], ◌∷◌}
-use Rattle.std.proofs.Common.{◌∙◌, ⊎_elim, le_refl, lt_of_not-le, mul-le-mul, mul-pos, add-one, le→leb, lit<, lit≤, pow_mono, eqb-true, eq-eqb, arith}
+use Rattle.std.proofs.Common.{◌∙◌, ⊎_elim, lt_of_not-le, mul-le-mul, mul-pos, add-one, le→leb, lit<, lit≤, pow_mono, eqb-true, eq-eqb, arith}
 use Rattle.algebra.specs.Reading.{from, from_over, read, ◌⊹◌, ◌⋆◌}
 use Rattle.enclosure.specs.Exact.{norm, Point, times}
 use Rattle.enclosure.specs.laws.Root.{below_of_squares}

@@ -12,7 +12,7 @@ use Rattle.enclosure.specs.Doubles.{added, doubles}
 use Rattle.tree.specs.Limits.{max_branches, walk_steps, max_buses}
 use Rattle.tree.specs.laws.Toward.{depth}
 use Rattle.tree.specs.Grid.{Grid, parent_of, Treelike, through, seen_by}
-use Rattle.tree.specs.laws.Sweeps.{over_from, over_from_law, from_same, gathers_past, gathers_beside, Swept, swept_walk, gathers_up, gathers_all, gathers_down}
+use Rattle.tree.specs.laws.Sweeps.{over_from, over_from_law, from_same, gathers_beside, Swept, swept_walk, gathers_up, gathers_all, gathers_down}
 use Rattle.sweep.specs.declared.columns.Points.{Points}
 use Rattle.sweep.specs.declared.sweeps.Rises.{Rises}
 use Rattle.sweep.specs.declared.sweeps.Falls.{Falls}

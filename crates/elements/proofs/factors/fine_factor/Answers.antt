@@ -1,6 +1,6 @@
 -- `elements::factors::fine_factor` computes its definition. Assumes nothing.
-use Rattle.std.specs.Prelude.{ℕ, ◌+◌, ◌-◌, ◌*◌, ◌/◌, ◌%◌, min, ◌≤◌, ◌<◌, ◌≡◌}
-use Rattle.std.proofs.Common.{arith, mul-le-mul, le_refl, lt_of_le_of_lt, lit<, rules}
+use Rattle.std.specs.Prelude.{ℕ, ◌-◌, ◌*◌, ◌%◌, ◌≤◌, ◌≡◌}
+use Rattle.std.proofs.Common.{arith, mul-le-mul, lt_of_le_of_lt, lit<}
 use Rattle.elements.specs.Factors.{peak_factor}
 use Rattle.elements.specs.laws.PeakTable.{peak_factor_sized}
 use Rattle.elements.specs.Doubles.{fine_factor}

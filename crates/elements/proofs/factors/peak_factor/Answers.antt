@@ -1,6 +1,6 @@
 -- `elements::factors::peak_factor` meets its contract: the table's rule, at i or at 230.
 -- Assumes nothing.
-use Rattle.std.proofs.Common.{ap, sym, ◌∙◌, arith, rules}
+use Rattle.std.proofs.Common.{ap, sym, ◌∙◌, arith}
 use Rattle.std.proofs.Math.Nat.{min-eq_left, min-eq_right}
 use Rattle.elements.specs.Factors.{peak_factor}
 use Rattle.elements.specs.laws.PeakTable.{peaks_rule}

@@ -1,7 +1,7 @@
 -- `elements::factors::sine` meets its contract: the table's rule, at p, at 70 or at 100. From 100 on nothing is left of the square.
 -- Assumes nothing.
 use Rattle.std.specs.Prelude.{ℕ, ◌+◌, ◌-◌, ◌≤◌, max, ◌≡◌}
-use Rattle.std.proofs.Common.{ap, sym, ◌∙◌, arith, rules}
+use Rattle.std.proofs.Common.{ap, sym, ◌∙◌, arith}
 use Rattle.std.proofs.Math.Nat.{max-eq_left, max-eq_right}
 use Rattle.elements.specs.Factors.{sine_of}
 use Rattle.elements.specs.laws.SineTable.{sines_rule, sine_none}

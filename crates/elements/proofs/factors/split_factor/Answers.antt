@@ -1,6 +1,6 @@
 -- `elements::factors::split_factor` meets its contract: the table's rule, at ρ or at 200.
 -- Assumes nothing.
-use Rattle.std.proofs.Common.{ap, sym, ◌∙◌, arith, rules}
+use Rattle.std.proofs.Common.{ap, sym, ◌∙◌, arith}
 use Rattle.std.proofs.Math.Nat.{min-eq_left, min-eq_right}
 use Rattle.elements.specs.Factors.{split_of}
 use Rattle.elements.specs.laws.SplitTable.{splits_rule}

@@ -1,5 +1,4 @@
 -- `elements::impedances::converter` computes its definition. Assumes nothing.
-use Rattle.std.proofs.Common.{rules}
 use Rattle.elements.specs.Doubles.{converter_by}
 use Rattle.elements.proofs.impedances.converter.Goals as goal
 

@@ -1,5 +1,4 @@
 -- `elements::impedances::feeder` computes its definition. Assumes nothing.
-use Rattle.std.proofs.Common.{rules}
 use Rattle.elements.specs.Doubles.{feeder_by}
 use Rattle.elements.proofs.impedances.feeder.Goals as goal
 

@@ -1,6 +1,6 @@
 -- `elements::impedances::generator` computes its definition. Assumes nothing.
 use Rattle.std.specs.Prelude.{max}
-use Rattle.std.proofs.Common.{mul-le-mul, arith, rules, le-leb}
+use Rattle.std.proofs.Common.{mul-le-mul, arith, le-leb}
 use Rattle.std.proofs.lemmas.Bool.{lt-leb}
 use Rattle.elements.specs.laws.FactorSizes.{saturation_most}
 use Rattle.elements.specs.Doubles.{generator_by}

@@ -1,5 +1,4 @@
 -- `elements::impedances::line` computes its definition. Assumes nothing.
-use Rattle.std.proofs.Common.{rules}
 use Rattle.elements.specs.Doubles.{line_by}
 use Rattle.elements.proofs.impedances.line.Goals as goal
 

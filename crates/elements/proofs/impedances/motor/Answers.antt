@@ -1,5 +1,4 @@
 -- `elements::impedances::motor` computes its definition. Assumes nothing.
-use Rattle.std.proofs.Common.{rules}
 use Rattle.elements.specs.Doubles.{motor_by}
 use Rattle.elements.proofs.impedances.motor.Goals as goal
 

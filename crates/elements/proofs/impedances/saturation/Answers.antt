@@ -1,6 +1,6 @@
 -- `elements::impedances::saturation` meets its contract: a sine is at most 10,000. Assumes nothing.
 use Rattle.std.specs.Prelude.{ℕ, ◌*◌, ◌≤◌, ◌<◌, max, ◌≡◌}
-use Rattle.std.proofs.Common.{arith, mul-le-mul, rules}
+use Rattle.std.proofs.Common.{arith, mul-le-mul}
 use Rattle.elements.specs.Factors.{sine_of}
 use Rattle.elements.specs.Impedance.{apart}
 use Rattle.elements.specs.laws.Factors.{sine_most}

@@ -1,5 +1,5 @@
 -- `elements::impedances::split` computes its definition. Assumes nothing.
-use Rattle.std.proofs.Common.{arith, rules, le-leb}
+use Rattle.std.proofs.Common.{arith, le-leb}
 use Rattle.std.proofs.Math.Nat.{min-eq_left}
 use Rattle.std.proofs.lemmas.Bool.{lt-leb}
 use Rattle.elements.specs.laws.FactorSizes.{split_re_most, split_im_most}

@@ -1,6 +1,6 @@
 -- `elements::impedances::station_unit` computes its definition. Assumes nothing.
 use Rattle.std.specs.Prelude.{ℕ, ◌+◌, ◌*◌, ◌^◌, ◌≤◌, max, min, ◌≡◌}
-use Rattle.std.proofs.Common.{arith, rules, le-leb}
+use Rattle.std.proofs.Common.{arith, le-leb}
 use Rattle.std.proofs.Math.Nat.{min-eq_left}
 use Rattle.std.proofs.lemmas.Bool.{lt-leb}
 use Rattle.elements.specs.Factors.{factor_c, sine_of, ux_of}

@@ -1,5 +1,5 @@
 -- `elements::impedances::transformer` computes its definition. Assumes nothing.
-use Rattle.std.proofs.Common.{arith, rules, le-leb}
+use Rattle.std.proofs.Common.{arith, le-leb}
 use Rattle.std.proofs.lemmas.Bool.{lt-leb}
 use Rattle.elements.specs.laws.FactorSizes.{factor_c_sized, ux_few}
 use Rattle.elements.specs.Doubles.{transformer_by}

@@ -1,6 +1,6 @@
 -- `elements::mu::mu_at` meets its contract: the table's rule, at i or at 100. Assumes nothing.
 use Rattle.std.specs.Prelude.{ℕ, ◌+◌, min, ◌<◌, ◌≡◌, get_or}
-use Rattle.std.proofs.Common.{ap, sym, ◌∙◌, arith, rules}
+use Rattle.std.proofs.Common.{ap, sym, ◌∙◌, arith}
 use Rattle.std.proofs.Math.Nat.{min-eq_left, min-eq_right}
 use Rattle.elements.specs.BreakingFactor.{mu_of}
 use Rattle.elements.specs.Doubles.{first_of}

@@ -1,6 +1,6 @@
 -- `elements::mu::mu_of` meets its contract: the test of `mu_by`, and its entry. Assumes nothing.
 use Rattle.std.specs.Prelude.{ℕ, ◌/◌, min, ◌≤◌, ◌<◌, ◌≡◌}
-use Rattle.std.proofs.Common.{◌∙◌, arith, rules, le-leb}
+use Rattle.std.proofs.Common.{◌∙◌, arith, le-leb}
 use Rattle.std.proofs.lemmas.Bool.{lt-leb}
 use Rattle.enclosure.specs.Doubles.{under_root}
 use Rattle.elements.specs.BreakingFactor.{mu_of}

@@ -1,5 +1,4 @@
 -- `elements::peaks::converter_peak` computes its definition. Assumes nothing.
-use Rattle.std.proofs.Common.{rules}
 use Rattle.elements.specs.Doubles.{converter_peak_by}
 use Rattle.elements.proofs.peaks.converter_peak.Goals as goal
 

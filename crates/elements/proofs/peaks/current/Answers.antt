@@ -1,5 +1,4 @@
 -- `elements::peaks::current` computes its definition. Assumes nothing.
-use Rattle.std.proofs.Common.{rules}
 use Rattle.elements.specs.Doubles.{current_by}
 use Rattle.elements.proofs.peaks.current.Goals as goal
 

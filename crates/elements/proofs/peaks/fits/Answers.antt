@@ -1,5 +1,5 @@
 -- `elements::peaks::fits` computes its definition. Assumes nothing.
-use Rattle.std.proofs.Common.{rules, lt-ltb, le-ltb}
+use Rattle.std.proofs.Common.{lt-ltb, le-ltb}
 use Rattle.elements.specs.Doubles.{fits_at}
 use Rattle.elements.proofs.peaks.fits.Goals as goal
 

@@ -1,5 +1,4 @@
 -- `elements::peaks::machine_peak` computes its definition. Assumes nothing.
-use Rattle.std.proofs.Common.{rules}
 use Rattle.elements.specs.Doubles.{machine_peak_by}
 use Rattle.elements.proofs.peaks.machine_peak.Goals as goal
 

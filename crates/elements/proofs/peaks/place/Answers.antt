@@ -1,6 +1,6 @@
 use Rattle.std.specs.Prelude.{refl}
-use Rattle.std.proofs.Common.{sym, ◌∙◌, le_refl, arith, rules}
-use Rattle.enclosure.specs.laws.Climb.{Left, left_next, left_taken, left_passed, left_none}
+use Rattle.std.proofs.Common.{sym, ◌∙◌, le_refl, arith}
+use Rattle.enclosure.specs.laws.Climb.{left_next, left_taken, left_passed, left_none}
 use Rattle.elements.specs.Doubles.{fits_at, place_of}
 use Rattle.elements.proofs.peaks.place.Goals as goal
 

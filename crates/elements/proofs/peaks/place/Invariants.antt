@@ -1,8 +1,6 @@
 -- `elements::peaks::place` meets its contract: the bits that are left to try give what the whole climb gives.
 -- Assumes nothing.
-use Rattle.std.specs.Prelude.{refl}
-use Rattle.std.proofs.Common.{sym, ◌∙◌, le_refl, arith, rules}
-use Rattle.enclosure.specs.laws.Climb.{Left, left_next, left_taken, left_passed, left_none}
+use Rattle.enclosure.specs.laws.Climb.{Left}
 use Rattle.elements.specs.Doubles.{fits_at, place_of}
 use Rattle.elements.proofs.peaks.place.Given as goal
 

@@ -1,5 +1,5 @@
 -- `number_at` meets its contract, at a place of the array and past its end.
-use Rattle.std.proofs.Common.{lt-ltb, le-ltb, rules}
+use Rattle.std.proofs.Common.{lt-ltb, le-ltb}
 use Rattle.tree.specs.Limits.{max_buses}
 use Rattle.sweep.proofs.columns.number_at.Goals as goal
 

@@ -1,5 +1,5 @@
 -- `point_at` meets its contract, at a place of the arrays and past their end.
-use Rattle.std.proofs.Common.{lt-ltb, le-ltb, rules}
+use Rattle.std.proofs.Common.{lt-ltb, le-ltb}
 use Rattle.tree.specs.Limits.{max_buses}
 use Rattle.sweep.proofs.columns.point_at.Goals as goal
 

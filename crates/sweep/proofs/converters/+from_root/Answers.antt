@@ -1,9 +1,8 @@
-use Rattle.std.specs.Prelude.{ℕ, ◌<◌}
+use Rattle.std.specs.Prelude.{◌<◌}
 use Rattle.std.proofs.Common.{sym, arith}
 use Rattle.enclosure.specs.Doubles.{doubles}
 use Rattle.tree.specs.laws.Converters.{from_root_more, from_root_end}
 use Rattle.sweep.specs.Points.{number_at, column_grid}
-use Rattle.enclosure.proofs.scale.Reads as scale-reads
 use Rattle.sweep.proofs.converters.+from_root.Goals as goal
 
 pub parent_of-parent-requires : goal.parent_of-parent-requires

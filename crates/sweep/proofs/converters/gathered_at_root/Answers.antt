@@ -1,5 +1,5 @@
-use Rattle.std.specs.Prelude.{◌≡◌, ◌-◌, ◌≤◌}
-use Rattle.std.proofs.Common.{sym, ap, ap₂, ◌∙◌, arith, rules}
+use Rattle.std.specs.Prelude.{◌≡◌}
+use Rattle.std.proofs.Common.{sym, ap, ap₂, ◌∙◌, arith}
 use Rattle.enclosure.specs.Doubles.{added, doubles}
 use Rattle.tree.specs.Converters.{gathered, to_root}
 use Rattle.tree.specs.laws.Converters.{gathered_more}

@@ -1,9 +1,7 @@
 -- `gathered_at_root` meets its contract. The invariant: the currents of the buses so far, each carried to bus 0.
 use Rattle.std.specs.Prelude.{◌≡◌, ◌-◌, ◌≤◌}
-use Rattle.std.proofs.Common.{sym, ap, ap₂, ◌∙◌, arith, rules}
-use Rattle.enclosure.specs.Doubles.{added, doubles}
-use Rattle.tree.specs.Converters.{gathered, to_root}
-use Rattle.tree.specs.laws.Converters.{gathered_more}
+use Rattle.enclosure.specs.Doubles.{doubles}
+use Rattle.tree.specs.Converters.{gathered}
 use Rattle.sweep.specs.Points.{point_at, column_grid}
 use Rattle.sweep.proofs.converters.gathered_at_root.Given as goal
 

@@ -1,5 +1,4 @@
 -- `down_at` meets its contract.
-use Rattle.std.proofs.Common.{rules}
 use Rattle.sweep.specs.Sweep.{down_at}
 use Rattle.sweep.proofs.sweeps.down_at.Goals as goal
 

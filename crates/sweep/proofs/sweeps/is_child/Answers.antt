@@ -1,5 +1,5 @@
 -- `is_child` meets its contract.
-use Rattle.std.proofs.Common.{le-ltb, lt-ltb, rules}
+use Rattle.std.proofs.Common.{le-ltb, lt-ltb}
 use Rattle.sweep.proofs.sweeps.is_child.Goals as goal
 
 pub returns-then-b-i : goal.returns-then-b-i

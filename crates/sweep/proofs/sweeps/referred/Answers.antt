@@ -1,5 +1,5 @@
 -- `referred` meets its contract.
-use Rattle.std.proofs.Common.{ap, ◌∙◌, rules}
+use Rattle.std.proofs.Common.{ap, ◌∙◌}
 use Rattle.enclosure.specs.Doubles.{scaled}
 use Rattle.sweep.proofs.sweeps.referred.Goals as goal
 

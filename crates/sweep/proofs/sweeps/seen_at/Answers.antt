@@ -1,5 +1,4 @@
 -- `seen_at` meets its contract.
-use Rattle.std.proofs.Common.{rules}
 use Rattle.sweep.specs.Sweep.{seen_of}
 use Rattle.sweep.proofs.sweeps.seen_at.Goals as goal
 

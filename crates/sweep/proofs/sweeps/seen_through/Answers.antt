@@ -1,6 +1,6 @@
 -- `seen_through` meets its contract, in its three cases.
 use Rattle.std.specs.Prelude.{◌≡◌, true, false}
-use Rattle.std.proofs.Common.{sym, ◌∙◌, le-ltb, lt-ltb, rules}
+use Rattle.std.proofs.Common.{sym, ◌∙◌, le-ltb, lt-ltb}
 use Rattle.enclosure.specs.Doubles.{empty, doubles}
 use Rattle.tree.specs.laws.Grid.{through_nothing, through_parent, through_child}
 use Rattle.sweep.proofs.sweeps.seen_through.Goals as goal

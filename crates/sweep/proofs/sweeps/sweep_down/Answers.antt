@@ -1,8 +1,8 @@
-use Rattle.std.specs.Prelude.{◌≡◌, refl, ◌-◌, ◌≤◌}
-use Rattle.std.proofs.Common.{arith, rules}
+use Rattle.std.specs.Prelude.{◌≡◌, refl}
+use Rattle.std.proofs.Common.{arith}
 use Rattle.sweep.specs.declared.sweeps.Falls.{Falls}
 use Rattle.sweep.specs.Points.{point_at, points, column_grid}
-use Rattle.sweep.specs.Sweep.{fall_to, falls_of}
+use Rattle.sweep.specs.Sweep.{falls_of}
 use Rattle.sweep.specs.laws.Steps.{down_taken, down_passed}
 use Rattle.sweep.proofs.sweeps.sweep_down.Goals as goal
 

@@ -1,10 +1,8 @@
 -- `sweep_down` is the sweep of its definition. The invariant: the buses so far are done.
-use Rattle.std.specs.Prelude.{◌≡◌, refl, ◌-◌, ◌≤◌}
-use Rattle.std.proofs.Common.{arith, rules}
+use Rattle.std.specs.Prelude.{◌≡◌, ◌-◌, ◌≤◌}
 use Rattle.sweep.specs.declared.sweeps.Falls.{Falls}
 use Rattle.sweep.specs.Points.{point_at, points, column_grid}
-use Rattle.sweep.specs.Sweep.{fall_to, falls_of}
-use Rattle.sweep.specs.laws.Steps.{down_taken, down_passed}
+use Rattle.sweep.specs.Sweep.{fall_to}
 use Rattle.sweep.proofs.sweeps.sweep_down.Given as goal
 
 -- the buses below `next` are done

@@ -1,9 +1,9 @@
-use Rattle.std.specs.Prelude.{◌≡◌, refl, ◌≤◌, min}
-use Rattle.std.proofs.Common.{◌∙◌, arith, rules}
+use Rattle.std.specs.Prelude.{◌≡◌, refl, min}
+use Rattle.std.proofs.Common.{◌∙◌, arith}
 use Rattle.sweep.specs.declared.sweeps.Rises.{Rises}
 use Rattle.tree.specs.Limits.{max_buses}
-use Rattle.sweep.specs.Points.{point_at, points, no_points, column_grid}
-use Rattle.sweep.specs.Sweep.{up_from, rises_of}
+use Rattle.sweep.specs.Points.{point_at, points, column_grid}
+use Rattle.sweep.specs.Sweep.{rises_of}
 use Rattle.sweep.specs.laws.Steps.{up_handed, up_passed}
 use Rattle.sweep.proofs.sweeps.sweep_up.Goals as goal
 

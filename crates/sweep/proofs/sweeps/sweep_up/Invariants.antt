@@ -1,11 +1,8 @@
 -- `sweep_up` is the sweep of its definition. The invariant: what is still to be done makes the whole.
-use Rattle.std.specs.Prelude.{◌≡◌, refl, ◌≤◌, min}
-use Rattle.std.proofs.Common.{◌∙◌, arith, rules}
-use Rattle.sweep.specs.declared.sweeps.Rises.{Rises}
+use Rattle.std.specs.Prelude.{◌≡◌, ◌≤◌, min}
 use Rattle.tree.specs.Limits.{max_buses}
 use Rattle.sweep.specs.Points.{point_at, points, no_points, column_grid}
-use Rattle.sweep.specs.Sweep.{up_from, rises_of}
-use Rattle.sweep.specs.laws.Steps.{up_handed, up_passed}
+use Rattle.sweep.specs.Sweep.{up_from}
 use Rattle.sweep.proofs.sweeps.sweep_up.Given as goal
 
 -- what is still to be done makes the whole

@@ -1,7 +1,6 @@
-use Rattle.std.specs.Prelude.{◌≡◌, refl}
-use Rattle.std.proofs.Common.{sym, ◌∙◌, ap, arith, rules}
+use Rattle.std.specs.Prelude.{refl}
+use Rattle.std.proofs.Common.{sym, ◌∙◌, ap, arith}
 use Rattle.enclosure.specs.Doubles.{added}
-use Rattle.tree.specs.Grid.{sum_over}
 use Rattle.sweep.specs.Points.{number_at, point_at}
 use Rattle.sweep.specs.Sweep.{child_of, with_children}
 use Rattle.sweep.specs.laws.Steps.{over_added, over_passed, over_past}

@@ -1,11 +1,9 @@
 -- `with_children` adds what its definition adds. The invariant: what is still to be added makes the whole.
-use Rattle.std.specs.Prelude.{◌≡◌, refl}
-use Rattle.std.proofs.Common.{sym, ◌∙◌, ap, arith, rules}
+use Rattle.std.specs.Prelude.{◌≡◌}
 use Rattle.enclosure.specs.Doubles.{added}
 use Rattle.tree.specs.Grid.{sum_over}
 use Rattle.sweep.specs.Points.{number_at, point_at}
-use Rattle.sweep.specs.Sweep.{child_of, with_children}
-use Rattle.sweep.specs.laws.Steps.{over_added, over_passed, over_past}
+use Rattle.sweep.specs.Sweep.{child_of}
 use Rattle.sweep.proofs.sweeps.with_children.Given as goal
 
 -- what is still to be added makes the whole

@@ -1,5 +1,5 @@
 -- `with_parent` meets its contract, with a parent and at bus 0.
-use Rattle.std.proofs.Common.{le-ltb, lt-ltb, rules}
+use Rattle.std.proofs.Common.{le-ltb, lt-ltb}
 use Rattle.sweep.specs.Sweep.{with_parent}
 use Rattle.sweep.proofs.sweeps.with_parent.Goals as goal
 

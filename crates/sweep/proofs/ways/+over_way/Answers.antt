@@ -1,5 +1,5 @@
-use Rattle.std.specs.Prelude.{ℕ, ◌+◌, ◌<◌}
-use Rattle.std.proofs.Common.{sym, arith, rules}
+use Rattle.std.specs.Prelude.{◌<◌}
+use Rattle.std.proofs.Common.{sym, arith}
 use Rattle.tree.specs.laws.Ways.{over_way_child, over_way_parent, over_way_here, over_way_stuck_child, over_way_stuck_parent}
 use Rattle.sweep.specs.Points.{number_at}
 use Rattle.sweep.specs.Crossings.{factor_at}

@@ -1,5 +1,4 @@
 -- `crossing_at` calculates its definition. Assumes nothing.
-use Rattle.std.proofs.Common.{rules}
 use Rattle.sweep.specs.Crossings.{crossing_at}
 use Rattle.sweep.proofs.ways.crossing_at.Goals as goal
 

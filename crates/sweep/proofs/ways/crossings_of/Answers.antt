@@ -1,11 +1,10 @@
-use Rattle.std.specs.Prelude.{ℕ, ◌-◌, ◌≤◌, ◌<◌, ◌≡◌, refl, List, Float}
-use Rattle.std.proofs.Common.{sym, ◌∙◌, ap, arith, rules}
+use Rattle.std.specs.Prelude.{◌<◌, ◌≡◌, refl}
+use Rattle.std.proofs.Common.{ap, arith}
 use Rattle.enclosure.specs.Doubles.{unity}
 use Rattle.tree.specs.Limits.{max_buses}
 use Rattle.sweep.specs.declared.ways.Crossing.{Crossing}
-use Rattle.sweep.specs.Points.{number_at, point_at}
-use Rattle.sweep.specs.Crossings.{crossing_of, crossings_of}
-use Rattle.sweep.specs.laws.Columns.{FilledTo, filled_to_none, filled_to_more, filled_to_column}
+use Rattle.sweep.specs.Crossings.{crossings_of}
+use Rattle.sweep.specs.laws.Columns.{filled_to_none, filled_to_more, filled_to_column}
 use Rattle.sweep.proofs.ways.crossings_of.Invariants.{branch_of}
 use Rattle.sweep.proofs.ways.crossings_of.Goals as goal
 

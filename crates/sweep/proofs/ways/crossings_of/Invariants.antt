@@ -1,12 +1,10 @@
 -- `crossings_of` fills its four columns. The invariant: they hold the buses so far.
-use Rattle.std.specs.Prelude.{ℕ, ◌-◌, ◌≤◌, ◌<◌, ◌≡◌, refl, List, Float}
-use Rattle.std.proofs.Common.{sym, ◌∙◌, ap, arith, rules}
+use Rattle.std.specs.Prelude.{ℕ, ◌-◌, ◌≤◌, List, Float}
 use Rattle.enclosure.specs.Doubles.{unity}
-use Rattle.tree.specs.Limits.{max_buses}
 use Rattle.sweep.specs.declared.ways.Crossing.{Crossing}
 use Rattle.sweep.specs.Points.{number_at, point_at}
-use Rattle.sweep.specs.Crossings.{crossing_of, crossings_of}
-use Rattle.sweep.specs.laws.Columns.{FilledTo, filled_to_none, filled_to_more, filled_to_column}
+use Rattle.sweep.specs.Crossings.{crossing_of}
+use Rattle.sweep.specs.laws.Columns.{FilledTo}
 use Rattle.sweep.proofs.ways.crossings_of.Given as goal
 
 -- the branch of each bus by the columns

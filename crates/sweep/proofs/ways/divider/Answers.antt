@@ -1,7 +1,5 @@
 -- `divider` calculates its definition. Assumes nothing.
-use Rattle.std.specs.Prelude.{◌≡◌, true, false}
-use Rattle.std.proofs.Common.{sym, ◌∙◌, rules}
-use Rattle.enclosure.specs.Doubles.{empty}
+use Rattle.std.proofs.Common.{sym, ◌∙◌}
 use Rattle.tree.specs.Ways.{divider_by}
 use Rattle.sweep.proofs.ways.divider.Goals as goal
 

@@ -1,5 +1,5 @@
 -- `factor_at` meets its contract, at a place of the array and past its end.
-use Rattle.std.proofs.Common.{lt-ltb, le-ltb, rules}
+use Rattle.std.proofs.Common.{lt-ltb, le-ltb}
 use Rattle.tree.specs.Limits.{max_buses}
 use Rattle.sweep.proofs.ways.factor_at.Goals as goal
 

@@ -1,12 +1,12 @@
-use Rattle.std.specs.Prelude.{◌-◌, ◌≤◌, ◌<◌, ◌≡◌, refl}
-use Rattle.std.proofs.Common.{arith, rules}
+use Rattle.std.specs.Prelude.{◌<◌, ◌≡◌, refl}
+use Rattle.std.proofs.Common.{arith}
 use Rattle.std.specs.Float.Ieee.{nan_bits}
 use Rattle.enclosure.specs.Doubles.{unity, nought, faintest}
 use Rattle.tree.specs.Limits.{max_buses}
 use Rattle.tree.specs.Ways.{over_way}
 use Rattle.sweep.specs.Points.{number_at}
 use Rattle.sweep.specs.Crossings.{factor_at, reach_of}
-use Rattle.sweep.specs.laws.Columns.{FilledTo, filled_to_none, filled_to_more, filled_to_column}
+use Rattle.sweep.specs.laws.Columns.{filled_to_none, filled_to_more, filled_to_column}
 use Rattle.sweep.proofs.ways.reach_of.Goals as goal
 
 pub float_from_bits-least : goal.float_from_bits-least

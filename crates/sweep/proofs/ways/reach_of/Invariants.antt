@@ -1,13 +1,10 @@
 -- `reach_of` fills its two columns. The invariant: they hold the buses so far.
-use Rattle.std.specs.Prelude.{◌-◌, ◌≤◌, ◌<◌, ◌≡◌, refl}
-use Rattle.std.proofs.Common.{arith, rules}
-use Rattle.std.specs.Float.Ieee.{nan_bits}
+use Rattle.std.specs.Prelude.{◌-◌, ◌≤◌}
 use Rattle.enclosure.specs.Doubles.{unity, nought, faintest}
-use Rattle.tree.specs.Limits.{max_buses}
 use Rattle.tree.specs.Ways.{over_way}
 use Rattle.sweep.specs.Points.{number_at}
-use Rattle.sweep.specs.Crossings.{factor_at, reach_of}
-use Rattle.sweep.specs.laws.Columns.{FilledTo, filled_to_none, filled_to_more, filled_to_column}
+use Rattle.sweep.specs.Crossings.{factor_at}
+use Rattle.sweep.specs.laws.Columns.{FilledTo}
 use Rattle.sweep.proofs.ways.reach_of.Given as goal
 
 abbrev pub invariant-loop-j : goal.invariant-loop-j
