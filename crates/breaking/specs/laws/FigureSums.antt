@@ -1,7 +1,7 @@
 -- A figure for a weighted sum of magnitudes, in whole numbers: each magnitude has bounds in steps of 1/4,096, each weight is in
 -- thousandths and at most 1.7 % too large, and the rest C has whole bounds. The figure is never below the sum, nor above it by more than
 -- 3 % and 4. Assumes nothing.
-use Rattle.std.specs.Prelude.{ℕ, zero, suc, ◌+◌, ◌-◌, ◌*◌, ◌/◌, ◌^◌, ◌≤◌, ◌<◌, refl, [], ◌∷◌}
+use Rattle.std.specs.Prelude.{ℕ, zero, suc, ◌+◌, ◌-◌, ◌*◌, ◌/◌, ◌≤◌, ◌<◌, refl, [], ◌∷◌}
 use Rattle.std.proofs.Common.{zero-le, arith, le_refl, le_trans, mul-le-mul, lit<}
 use Rattle.algebra.specs.Reading.{from, read, ◌⊹◌, ◌⋆◌}
 use Rattle.enclosure.specs.Fraction.{Fraction, Most, whole, product, total, SumAtMost, SumAtLeast}

@@ -1,6 +1,6 @@
 -- The table of shares and the sum of steps, as the code makes them: how large its parts are for any study, so that no step overflows, and
 -- how it is laid source by source. Assumes nothing.
-use Rattle.std.specs.Prelude.{ℕ, zero, suc, ◌+◌, ◌*◌, ◌/◌, ◌^◌, min, ◌≤◌, ◌<◌, ◌≡◌, refl, Bool, true, false, cond, List, [], ◌∷◌, ◌++◌, leb, length, take, set, Float}
+use Rattle.std.specs.Prelude.{ℕ, ◌+◌, ◌*◌, ◌/◌, ◌^◌, min, ◌≤◌, ◌<◌, ◌≡◌, refl, Bool, true, false, cond, List, [], ◌∷◌, ◌++◌, leb, length, take, set, Float}
 use Rattle.std.proofs.Common.{◌∙◌, ap, arith, add-one, le_refl, le_trans, mul-le-mul, lit≤, length-take, take-suc, take_all}
 use Rattle.std.proofs.lemmas.List.Edits.{sets}
 use Rattle.enclosure.specs.Doubles.{nought, under_root, root_fine}
