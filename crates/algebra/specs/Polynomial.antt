@@ -1,8 +1,8 @@
 -- Polynomials over ℕ, compared by computing their normal forms: `ring` proves an identity, `poly_le` an order that holds
 -- coefficient by coefficient. Both are theorems about every list of values; nothing is assumed.
-use Prim.Native.Nat.{ℕ, zero, suc, ◌+◌, ◌*◌, ◌-◌, ◌≤◌, compare, Ordering, zero-le, suc-le-suc}
-use Rattle.std.specs.Prelude.{◌≡◌, refl, List, [], ◌∷◌, Bool, true, false, ◌⊎◌, T, leb, eqb}
-use Rattle.std.proofs.Common.{sym, ◌∙◌, ap, ap₂, subst₂, inl, inr, ⊎_elim, arith, zero-add, add-zero, zero-mul, one-mul, mul-zero, mul-one, add_assoc, add_comm, mul-add, add-mul, mul_assoc, mul_left_comm, mul-le-mul_right, add-one, leb→le, eqb→eq}
+use Prim.Native.Nat.{compare, Ordering}
+use Rattle.std.specs.Prelude.{◌≡◌, refl, List, [], ◌∷◌, Bool, true, false, ◌⊎◌, T, leb, eqb, ℕ, zero, suc, ◌+◌, ◌*◌, ◌-◌, ◌≤◌}
+use Rattle.std.proofs.Common.{sym, ◌∙◌, ap, ap₂, subst₂, inl, inr, ⊎_elim, arith, zero-add, add-zero, zero-mul, one-mul, mul-zero, mul-one, add_assoc, add_comm, mul-add, add-mul, mul_assoc, mul_left_comm, mul-le-mul_right, add-one, leb→le, eqb→eq, zero-le, suc-le-suc}
 use Rattle.std.proofs.Math.Nat.{mul-mul-mul_comm, le_dest}
 use Rattle.std.proofs.Math.Dec.{compare_is_eq}
 

@@ -1,8 +1,8 @@
 -- Reading a number as a polynomial. `search read` finds the expression behind a goal, so that a polynomial fact is proved by
 -- naming its variables and the facts it follows from. Assumes nothing.
 use Prim.Native.Nat.{Ordering}
-use Prim.Native.Nat.{ℕ, suc, ◌+◌, ◌*◌, ◌≤◌, ◌<◌, compare}
-use Rattle.std.specs.Prelude.{◌≡◌, refl, List, ◌∷◌}
+use Prim.Native.Nat.{compare}
+use Rattle.std.specs.Prelude.{◌≡◌, refl, List, ◌∷◌, ℕ, suc, ◌+◌, ◌*◌, ◌≤◌, ◌<◌}
 use Rattle.std.proofs.Common.{sym, ◌∙◌, ap, ap₂, subst₂, arith, add-le-add, mul-le-mul_left}
 use Rattle.std.proofs.Math.Nat.{le_of_mul-le-mul_left}
 use Rattle.algebra.specs.Polynomial.{E, var, lit, ◌⊞◌, ◌⊠◌, nxt, nth, den, nf, nil, excess, apart, ring, poly_le}

@@ -1,8 +1,8 @@
 -- One rounding to f64: off by at most 2 ^ -53 of the value and half of the smallest f64, for every fraction that is not negative and at most 2 ^ 1023.
 -- Assumes nothing.
+use Prim.Native.Nat.{compare, Ordering}
 use Rattle.std.specs.Prelude.{◌≡◌, ℕ, suc, ◌+◌, ◌-◌, ◌*◌, ◌/◌, ◌%◌, ◌^◌, ◌<◌, ◌≤◌, not, T, ◌==◌}
 use Rattle.std.proofs.Common.{sym, ap, ◌∙◌, subst, ⊎_elim, le_trans, le_of_eq, add-mul, one-mul, mul-one, mul_comm, mul_assoc, mul-pos, mul-le-mul_right, le-div_iff_mul-le, div-add-mod', mod-lt, arith, leb→le, eqb→eq, pow-add, pow_pos}
-use Prim.Native.Nat.{compare, Ordering}
 use Rattle.std.proofs.Math.Dec.{is_le, compare_is_eq, nleb→lt, eqb_refl}
 use Rattle.std.proofs.Math.Arith.{lt_of_le-ne}
 use Rattle.std.specs.Float.Ieee.{nearest, size}

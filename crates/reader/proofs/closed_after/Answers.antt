@@ -1,5 +1,5 @@
 -- `closed_after` meets its contract, by whether the study can be closed.
-use Rattle.std.proofs.Common.{ap, sym, ◌∙◌, rules}
+use Rattle.std.proofs.Common.{ap, sym, ◌∙◌}
 use Rattle.network.specs.Network.{network}
 use Rattle.reader.specs.File.{accepted_as}
 use Rattle.reader.proofs.Taking.{close_accepted, close_refused}

@@ -1,6 +1,6 @@
 -- `read` meets its contract: a text that is empty or too long is refused, any other is read row by row.
 use Rattle.std.specs.Prelude.{◌≡◌, refl, List, ℕ, length}
-use Rattle.std.proofs.Common.{ap, ◌∙◌, rules, arith}
+use Rattle.std.proofs.Common.{ap, ◌∙◌, arith}
 use Rattle.network.specs.Network.{network, here}
 use Rattle.network.specs.Grounds.{run}
 use Rattle.network.specs.laws.Tests.{in_range_law}

@@ -1,13 +1,7 @@
 -- `read_records` meets its contract. The invariant: the rows that are left give the outcome of all.
-use Rattle.std.specs.Prelude.{◌≡◌, refl, ◌+◌, ◌-◌, ◌≤◌, length, drop}
-use Rattle.std.proofs.Common.{sym, ◌∙◌, ap, arith, rules}
+use Rattle.std.specs.Prelude.{◌≡◌, ◌+◌, ◌-◌, ◌≤◌, length, drop}
 use Rattle.network.specs.Network.{network}
-use Rattle.network.specs.Additions.{listed, added_network, AddedNetwork}
-use Rattle.network.specs.laws.Additions.{added_most}
 use Rattle.reader.specs.File.{rows, read_from}
-use Rattle.reader.specs.Parts.{behind}
-use Rattle.reader.proofs.Taking.{rows_end}
-use Rattle.reader.proofs.PartRows.{additions_refused, additions_accepted}
 use Rattle.reader.proofs.read_records.Given as goal
 
 abbrev pub invariant-loop-at : goal.invariant-loop-at

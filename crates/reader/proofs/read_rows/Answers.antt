@@ -1,16 +1,13 @@
 -- `read_rows` meets its contract: the first row starts the study, and the rows behind it give its outcome.
-use Rattle.std.specs.Prelude.{◌≡◌, refl, true, List, [], ◌∷◌, ℕ, ◌+◌, ◌-◌, length, take, drop}
-use Rattle.std.proofs.Common.{sym, ◌∙◌, ap, subst, ⊎_elim, arith, rules, length-take}
-use types.Run.{OneOf}
-use denote.Enum.Declared.{tag_of}
-use Rattle.network.specs.Network.{Network, network}
+use Rattle.std.specs.Prelude.{◌≡◌, refl, true, List, ℕ, ◌+◌, ◌-◌, take, drop}
+use Rattle.std.proofs.Common.{sym, ◌∙◌, ap, subst, arith, length-take}
+use Rattle.network.specs.Network.{Network}
 use Rattle.network.specs.Grounds.{empty_network}
 use Rattle.network.specs.laws.Tests.{never}
 use Rattle.reader.specs.declared.Row.{Row}
 use Rattle.reader.specs.declared.Row.TheVariants.{Start, WithBus, WithSource, Malformed}
 use Rattle.reader.specs.File.{rows, row_of, row_number, after_row, read_from}
 use Rattle.reader.specs.laws.RowLetters.{Begins, row_begins}
-use Rattle.reader.specs.contracts.Row.{the_type}
 use Rattle.reader.proofs.Taking.{row_accepted, row_refused}
 use Rattle.reader.proofs.read_rows.Goals as goal
 
@@ -33,9 +30,9 @@ returns-in_default c =
     let text = c.args.text.now in
     let end = c.row_end-end in
     let said = c.row_of-said in
-    let begins = subst (Begins true _) (sym said.ensures) (row_begins true _) in
+    let begins = subst (Begins true (take end.result text)) (sym said.ensures) (row_begins true (take end.result text)) in
     let refusal = row_refused text 0 end.result c.requires.0 end.ensures.0 0 empty_network said.result (first text end.result said.result said.ensures) in
-    c.refused.ensures ∙ sym (refusal 16 (wrong_start empty_network _ said.result c.in_default.not-Start begins) (λ z. omega arith))
+    c.refused.ensures ∙ sym (refusal 16 (wrong_start empty_network (take end.result text) said.result c.in_default.not-Start begins) (λ z. omega arith))
 
 pub returns-then-first-ne0 : goal.returns-then-first-ne0
 returns-then-first-ne0 c =

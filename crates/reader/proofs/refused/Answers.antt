@@ -1,5 +1,4 @@
 -- `refused` meets its contract: starting with 6 leaves an empty open study of tolerance 6.
-use Rattle.std.proofs.Common.{rules}
 use Rattle.reader.proofs.refused.Goals as goal
 
 pub returns : goal.returns

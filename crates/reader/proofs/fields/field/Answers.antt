@@ -1,6 +1,6 @@
 -- `field` meets its contract: the bytes from the place to the end of the field are its stretch.
 use Rattle.std.specs.Prelude.{◌≡◌, ◌-◌, drop}
-use Rattle.std.proofs.Common.{arith, rules}
+use Rattle.std.proofs.Common.{arith}
 use Rattle.reader.specs.Stretches.{at_comma, before}
 use Rattle.reader.proofs.fields.field.Goals as goal
 

@@ -1,6 +1,6 @@
-use Rattle.std.specs.Prelude.{◌≡◌, refl, ◌+◌, ◌-◌, ◌≤◌, length, drop}
-use Rattle.std.proofs.Common.{◌∙◌, arith, rules, eq-eqb, ne_eqb}
-use Rattle.reader.specs.Stretches.{at_comma, before}
+use Rattle.std.specs.Prelude.{refl}
+use Rattle.std.proofs.Common.{◌∙◌, arith, eq-eqb, ne_eqb}
+use Rattle.reader.specs.Stretches.{at_comma}
 use Rattle.reader.specs.laws.Stretches.{before_none, before_more, before_end}
 use Rattle.reader.proofs.Bytes.{comma_here}
 use Rattle.reader.proofs.fields.field_end.Goals as goal

@@ -1,9 +1,6 @@
 -- `field_end` meets its contract. The invariant: no comma so far.
-use Rattle.std.specs.Prelude.{◌≡◌, refl, ◌+◌, ◌-◌, ◌≤◌, length, drop}
-use Rattle.std.proofs.Common.{◌∙◌, arith, rules, eq-eqb, ne_eqb}
+use Rattle.std.specs.Prelude.{◌≡◌, ◌+◌, ◌-◌, ◌≤◌, length, drop}
 use Rattle.reader.specs.Stretches.{at_comma, before}
-use Rattle.reader.specs.laws.Stretches.{before_none, before_more, before_end}
-use Rattle.reader.proofs.Bytes.{comma_here}
 use Rattle.reader.proofs.fields.field_end.Given as goal
 
 abbrev pub invariant-loop-i : goal.invariant-loop-i

@@ -1,6 +1,6 @@
 -- `length_ok` meets its contract, by the length of the field.
 use Rattle.std.specs.Prelude.{◌≤◌, length}
-use Rattle.std.proofs.Common.{arith, le-leb, ne_eqb, rules}
+use Rattle.std.proofs.Common.{arith, le-leb, ne_eqb}
 use Rattle.std.proofs.lemmas.Bool.{lt-leb}
 use Rattle.reader.specs.File.{length_ok}
 use Rattle.reader.proofs.fields.length_ok.Goals as goal

@@ -1,5 +1,5 @@
 -- `number_of` meets its contract, by whether the length is allowed.
-use Rattle.std.proofs.Common.{sym, ◌∙◌, rules}
+use Rattle.std.proofs.Common.{sym, ◌∙◌}
 use Rattle.reader.specs.File.{number_of}
 use Rattle.reader.proofs.fields.number_of.Goals as goal
 

@@ -1,6 +1,5 @@
-use Rattle.std.specs.Prelude.{◌+◌, ◌-◌, length}
-use Rattle.std.proofs.Common.{sym, ◌∙◌, arith, rules}
-use Rattle.reader.proofs.Collecting.{begun, done, inside_row, broken, full, more, Progress}
+use Rattle.std.proofs.Common.{sym, ◌∙◌, arith}
+use Rattle.reader.proofs.Collecting.{begun, done, inside_row, broken, full, more}
 use Rattle.reader.proofs.fields.numbers_of.Goals as goal
 
 pub loop-at-init : goal.loop-at-init

@@ -1,7 +1,6 @@
 -- `numbers_of` meets its contract. The invariant: what is collected so far, with the fields that follow, is what all of them give.
 use Rattle.std.specs.Prelude.{◌+◌, ◌-◌, length}
-use Rattle.std.proofs.Common.{sym, ◌∙◌, arith, rules}
-use Rattle.reader.proofs.Collecting.{begun, done, inside_row, broken, full, more, Progress}
+use Rattle.reader.proofs.Collecting.{Progress}
 use Rattle.reader.proofs.fields.numbers_of.Given as goal
 
 abbrev pub invariant-loop-at : goal.invariant-loop-at

@@ -1,6 +1,6 @@
-use Rattle.std.specs.Prelude.{◌≡◌, refl, ◌+◌, ◌*◌, ◌-◌, ◌^◌, ◌≤◌, ◌<◌, length, drop}
-use Rattle.std.proofs.Common.{sym, ◌∙◌, arith, rules, drop_of_length-le}
-use Rattle.reader.specs.File.{digits, digits_value}
+use Rattle.std.specs.Prelude.{◌≡◌, refl, ◌+◌, ◌*◌, drop}
+use Rattle.std.proofs.Common.{sym, ◌∙◌, arith, drop_of_length-le}
+use Rattle.reader.specs.File.{digits_value}
 use Rattle.reader.proofs.Bytes.{digits_low, digits_high, digits_more, decimal_more, decimal_least, value_other, value_large, value_small}
 use Rattle.reader.proofs.fields.value.Goals as goal
 

@@ -1,8 +1,6 @@
 -- `value` meets its contract. The invariant: the digits so far make the number.
-use Rattle.std.specs.Prelude.{◌≡◌, refl, ◌+◌, ◌*◌, ◌-◌, ◌^◌, ◌≤◌, ◌<◌, length, drop}
-use Rattle.std.proofs.Common.{sym, ◌∙◌, arith, rules, drop_of_length-le}
+use Rattle.std.specs.Prelude.{◌≡◌, ◌-◌, ◌^◌, ◌≤◌, ◌<◌, length, drop}
 use Rattle.reader.specs.File.{digits, digits_value}
-use Rattle.reader.proofs.Bytes.{digits_low, digits_high, digits_more, decimal_more, decimal_least, value_other, value_large, value_small}
 use Rattle.reader.proofs.fields.value.Given as goal
 
 abbrev pub invariant-loop-i : goal.invariant-loop-i

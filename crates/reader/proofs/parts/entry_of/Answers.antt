@@ -1,5 +1,4 @@
 -- `entry_of` meets its contract, by what the row says.
-use Rattle.std.proofs.Common.{rules}
 use Rattle.reader.proofs.parts.entry_of.Goals as goal
 
 pub returns-in-WithBus : goal.returns-in-WithBus

@@ -1,10 +1,10 @@
-use Rattle.std.specs.Prelude.{◌≡◌, List, [], ◌∷◌, ◌++◌, ℕ, ◌+◌, ◌-◌, ◌≤◌, ◌<◌, length, take, drop, set}
-use Rattle.std.proofs.Common.{sym, ◌∙◌, ap, arith, add-one, rules, length-take, length-set, take-suc-set}
+use Rattle.std.specs.Prelude.{◌≡◌, List, [], ◌∷◌, ◌++◌, ℕ, ◌+◌, ◌≤◌, ◌<◌, length, take, drop, set}
+use Rattle.std.proofs.Common.{sym, ◌∙◌, ap, arith, add-one, length-take, length-set, take-suc-set}
 use Rattle.std.proofs.lemmas.List.{length-replicate}
 use Rattle.network.specs.declared.additions.Addition.TheVariants.{OfBus}
 use Rattle.network.specs.declared.additions.Additions.{Additions}
 use Rattle.network.specs.declared.additions.Entry.{Entry}
-use Rattle.network.specs.Network.{Network, blank}
+use Rattle.network.specs.Network.{blank}
 use Rattle.network.specs.Additions.{max_additions, listed}
 use Rattle.network.specs.laws.Tests.{never}
 use Rattle.reader.specs.File.{rows, refused_at, read_from}

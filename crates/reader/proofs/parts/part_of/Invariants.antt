@@ -1,16 +1,9 @@
 -- `part_of` meets its contract. The invariant: the rows from the beginning come to what the additions so far and the rows behind them do.
-use Rattle.std.specs.Prelude.{◌≡◌, List, [], ◌∷◌, ◌++◌, ℕ, ◌+◌, ◌-◌, ◌≤◌, ◌<◌, length, take, drop, set}
-use Rattle.std.proofs.Common.{sym, ◌∙◌, ap, arith, add-one, rules, length-take, length-set, take-suc-set}
-use Rattle.std.proofs.lemmas.List.{length-replicate}
-use Rattle.network.specs.declared.additions.Addition.TheVariants.{OfBus}
-use Rattle.network.specs.declared.additions.Additions.{Additions}
-use Rattle.network.specs.declared.additions.Entry.{Entry}
-use Rattle.network.specs.Network.{Network, blank}
+use Rattle.std.specs.Prelude.{◌≡◌, ℕ, ◌+◌, ◌-◌, ◌≤◌, ◌<◌, length, drop}
+use Rattle.network.specs.Network.{Network}
 use Rattle.network.specs.Additions.{max_additions, listed}
-use Rattle.network.specs.laws.Tests.{never}
-use Rattle.reader.specs.File.{rows, refused_at, read_from}
+use Rattle.reader.specs.File.{rows, read_from}
 use Rattle.reader.specs.Parts.{added_then}
-use Rattle.reader.proofs.PartRows.{row_adds, row_malformed, then_more, then_same}
 use Rattle.reader.proofs.parts.part_of.Given as goal
 
 abbrev pub invariant-loop-at : goal.invariant-loop-at

@@ -1,5 +1,5 @@
 -- `ends_row` meets its contract, by whether two bytes are left.
-use Rattle.std.proofs.Common.{sym, rules}
+use Rattle.std.proofs.Common.{sym}
 use Rattle.reader.proofs.Bytes.{crlf_last, crlf_next}
 use Rattle.reader.proofs.rows.ends_row.Goals as goal
 

@@ -1,6 +1,6 @@
-use Rattle.std.specs.Prelude.{◌≡◌, refl, ◌+◌, ◌-◌, ◌≤◌, length, drop}
-use Rattle.std.proofs.Common.{sym, ◌∙◌, arith, rules}
-use Rattle.reader.specs.Stretches.{at_crlf, before}
+use Rattle.std.specs.Prelude.{refl}
+use Rattle.std.proofs.Common.{sym, ◌∙◌, arith}
+use Rattle.reader.specs.Stretches.{at_crlf}
 use Rattle.reader.specs.laws.Stretches.{before_none, before_more, before_end}
 use Rattle.reader.proofs.rows.row_end.Goals as goal
 

@@ -1,8 +1,6 @@
 -- `row_end` meets its contract. The invariant: no CRLF so far.
-use Rattle.std.specs.Prelude.{◌≡◌, refl, ◌+◌, ◌-◌, ◌≤◌, length, drop}
-use Rattle.std.proofs.Common.{sym, ◌∙◌, arith, rules}
+use Rattle.std.specs.Prelude.{◌≡◌, ◌+◌, ◌-◌, ◌≤◌, length, drop}
 use Rattle.reader.specs.Stretches.{at_crlf, before}
-use Rattle.reader.specs.laws.Stretches.{before_none, before_more, before_end}
 use Rattle.reader.proofs.rows.row_end.Given as goal
 
 abbrev pub invariant-loop-i : goal.invariant-loop-i

@@ -1,6 +1,6 @@
 -- `row_of` meets its contract: the letter, the comma, and the numbers after them.
 use Rattle.std.specs.Prelude.{◌-◌, length, drop}
-use Rattle.std.proofs.Common.{sym, ◌∙◌, arith, rules, length-drop, take_all}
+use Rattle.std.proofs.Common.{sym, ◌∙◌, arith, length-drop, take_all}
 use Rattle.reader.specs.laws.Collected.{Collected, collected_law}
 use Rattle.reader.specs.File.{fields}
 use Rattle.reader.proofs.Records.{fields_taken, fields_broken, row_short, row_other, row_fields}
