@@ -1,5 +1,5 @@
 -- What a turn of the loops counts and lays: the next number of a row, the next row of the records; and how long these are at most.
-use Rattle.std.specs.Prelude.{◌≡◌, refl, List, [], ◌∷◌, ◌++◌, map, ℕ, zero, suc, ◌+◌, ◌*◌, ◌≤◌, ◌<◌, length, set, take, drop, get_or}
+use Rattle.std.specs.Prelude.{◌≡◌, refl, List, [], ◌∷◌, ◌++◌, map, ℕ, ◌+◌, ◌*◌, ◌≤◌, ◌<◌, length, set, take, drop, get_or}
 use Rattle.std.proofs.Common.{sym, ap, ◌∙◌, append_assoc, mul-suc, arith, add-one, length-append, drop_of_length-le, length-take-le, drop-cons, get_or-take}
 use Rattle.network.specs.Network.{Network}
 use Rattle.reader.specs.File.{cr, lf, comma, letter_s, letter_b, letter_p}

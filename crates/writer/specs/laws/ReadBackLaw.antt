@@ -3,7 +3,6 @@ use Rattle.std.specs.Prelude.{◌≡◌, true, List, ℕ, length, take, drop}
 use Rattle.std.proofs.Common.{sym, ◌∙◌, arith}
 use Rattle.std.proofs.Math.Seq.{take-append_seam}
 use Rattle.network.specs.Network.{Network}
-use Rattle.network.specs.Grounds.{Call}
 use Rattle.network.specs.laws.Rebuilt.{Rebuilt, run_rebuilt}
 use Rattle.writer.specs.Text.{text_of}
 use Rattle.writer.specs.Writing.{write_number, write_length, after_write}
