@@ -25,7 +25,7 @@ use writer::write;
 
 #[unsafe(no_mangle)]
 pub extern "C" fn enclosure_add(a: f64, b: f64, c: f64, d: f64, re: &mut f64, im: &mut f64)
-    ensures { record { re = re.exit.now; im = im.new } ≡ added (record { re = a; im = b }) (record { re = c; im = d }) }
+    ensures { record { re = re.new; im = im.new } ≡ added (record { re = a; im = b }) (record { re = c; im = d }) }
 {
     let r = enclosure::add(Complex { re: a, im: b }, Complex { re: c, im: d });
     *re = r.re;
@@ -34,7 +34,7 @@ pub extern "C" fn enclosure_add(a: f64, b: f64, c: f64, d: f64, re: &mut f64, im
 
 #[unsafe(no_mangle)]
 pub extern "C" fn enclosure_inverse(a: f64, b: f64, re: &mut f64, im: &mut f64)
-    ensures { record { re = re.exit.now; im = im.new } ≡ inverted (record { re = a; im = b }) }
+    ensures { record { re = re.new; im = im.new } ≡ inverted (record { re = a; im = b }) }
 {
     let r = enclosure::inverse(Complex { re: a, im: b });
     *re = r.re;
@@ -43,7 +43,7 @@ pub extern "C" fn enclosure_inverse(a: f64, b: f64, re: &mut f64, im: &mut f64)
 
 #[unsafe(no_mangle)]
 pub extern "C" fn enclosure_scale(a: f64, b: f64, p: u32, q: u32, re: &mut f64, im: &mut f64)
-    ensures { record { re = re.exit.now; im = im.new } ≡ scaled p q (record { re = a; im = b }) }
+    ensures { record { re = re.new; im = im.new } ≡ scaled p q (record { re = a; im = b }) }
 {
     let r = enclosure::scale(Complex { re: a, im: b }, p, q);
     *re = r.re;
