@@ -27,7 +27,7 @@ pub(crate) fn amperes_up(steps: u64) -> u64
     (steps + 4095) / 4096
 }
 
-// 2^24·(typeof.c.Un)²/3 of the queried bus, by its nominal volts: a root of it counts in steps of 1/4,096 A.
+// 2^24·(c·Un)²/3 of the queried bus, by its nominal volts: a root of it counts in steps of 1/4,096 A.
 pub(crate) fn drive(tolerance: u32, volts: u32) -> f64
     ensures { result ≡ drive_by (factor_c tolerance volts * volts) }
 {

@@ -33,7 +33,7 @@ pub fn place(y: Complex) -> u32
     low
 }
 
-// √3 times the fault current as a point: typeof.c.Un.Y, c in hundredths.
+// √3 times the fault current as a point: c·Un·Y, c in hundredths.
 pub fn current(y: Complex, c: u32, volts: u32) -> Complex
     ensures { result ≡ current_by c volts y }
 {

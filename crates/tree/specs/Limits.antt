@@ -66,13 +66,13 @@ carried_parts k n = k + (8 * way_branches + 4 * n)
 abbrev pub most_parts : ℕ
 most_parts = 30000
 
--- ---- sizes. What stands at a bus: 2 ^ 100 S for each machine; 2 ^ 34 V-as-A, current times nominal volts, for each converter
+-- ---- sizes. What stands at a bus: 2 ^ 100 S for each machine; 2 ^ 34 V·A, current times nominal volts, for each converter
 abbrev pub own_most : ℕ
 own_most = 2 ^ 100 * covered_sources
 
 abbrev pub current_most : ℕ
 current_most = 2 ^ 34 * covered_sources
 
--- what is seen at a bus times its nominal volts, in V-as-S: √3·I is then at most 2 ^ 50 A
+-- what is seen at a bus times its nominal volts, in V·S: √3·I is then at most 2 ^ 50 A
 abbrev pub seen_most : ℕ
 seen_most = 10 ^ 15

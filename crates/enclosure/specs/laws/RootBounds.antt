@@ -236,6 +236,6 @@ module _ (δ κ : ℕ) (K X : Fraction) (k v : Float) (l : κ + δ ≤ 3997) (i 
       less : (a c b d : ℕ) → a ≤ 2 ^ 100 * c → b * 2 ^ 118 ≤ d → a * b ≤ c * d
       less a c b d p q = from_over (a ∷ b ∷ c ∷ d ∷ []) (2 ^ 118) (lit≤ tt) (mul-le-mul p q) (search read depth 40 fits 20000) refl
 
-  -- THE ROOT BOUNDS √(K-as-X)
+  -- THE ROOT BOUNDS √(K·X)
   pub reached_bounds : RootHolds (K.top * X.top) (K.under * X.under) (root_fine (mul binary64 k v))
   reached_bounds = ⊎_elim near (λ q. faint q.0 q.1) h.near

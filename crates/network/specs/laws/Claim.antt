@@ -42,7 +42,7 @@ use Rattle.network.specs.laws.AcceptedTree.{volts_of, sound, levels, referred_le
 use Rattle.network.specs.laws.Bridge.{seen_walk, carried_tree}
 use Rattle.network.specs.laws.BusSums.{covered_sources_law, count_of, counted_once, plain, own_near, own_volts, fed, amperes, current_near, current_counted, current_real}
 
--- ---- over plain numbers: Y is (A, B)/D, so that Z is (A-as-D, B-as-D)/(A² + B²)
+-- ---- over plain numbers: Y is (A, B)/D, so that Z is (A·D, B·D)/(A² + B²)
 module _ (c u A B D : ℕ) where
   below_as : (i : ℕ) → 3 * (i * i * (D * 1 * 100 * (D * 1 * 100))) ≤ 1 * norm (A * u * c) (B * u * c) → 30000 * (i * i) * norm (A * D) (B * D) ≤ c * u * (c * u) * (norm A B * norm A B)
   below_as i h = from (c ∷ u ∷ A ∷ B ∷ D ∷ i ∷ []) (norm A B ⋆ h) (search read depth 40 fits 20000) refl

@@ -15,7 +15,7 @@ use Rattle.tree.specs.Grid.{times_square}
 use Rattle.tree.specs.laws.AdmittanceSizes.{AtMost, AtLeast}
 use Rattle.tree.specs.laws.TreeBounds.{Impedance}
 
--- (re + im)·Un of what is seen through one branch is at most 6.72·10¹² V-as-S, that of one machine at most 8.59·10⁹ V-as-S: as many
+-- (re + im)·Un of what is seen through one branch is at most 6.72·10¹² V·S, that of one machine at most 8.59·10⁹ V·S: as many
 -- of both as the laws cover together keep it at `seen_most` or less (Claim)
 abbrev pub branch_most : ℕ
 branch_most = 6720000000000
