@@ -9,11 +9,11 @@ use crate::hex::{TEXT, text_of};
 use crate::parts::print_written;
 use crate::tables::{TABLE, first_numbers, print_broken, print_report};
 use crate::turns::{Reason, Reply};
-use libc::STDOUT_FILENO;
 use network::query::Found;
 use printing::{
     LINE, amount, number_of, put, put_amperes, put_letter, put_next, put_number, written,
 };
+use std::io;
 
 fn put_error(line: &mut [u8; LINE], reason: &[u8]) -> usize
     requires line_len { length line.old ≡ room }
@@ -68,42 +68,52 @@ fn put_found(line: &mut [u8; LINE], found: Found) -> usize
     put(line, at, b"\n")
 }
 
-fn print_error(reason: Reason) {
+fn print_error(rt: &impl Print, reason: Reason) -> io::Result<()> {
     let mut line = [0u8; LINE];
     let end = put_reason(&mut line, reason);
-    io::write_all(STDOUT_FILENO, written(&line, end));
+    rt.write_all(written(&line, end))
 }
 
-fn print_number(number: u32) {
+fn print_number(rt: &impl Print, number: u32) -> io::Result<()> {
     let mut line = [0u8; LINE];
     let end = put_ground(&mut line, number);
-    io::write_all(STDOUT_FILENO, written(&line, end));
+    rt.write_all(written(&line, end))
 }
 
-fn print_reading(number: u32, row: u32) {
+fn print_reading(rt: &impl Print, number: u32, row: u32) -> io::Result<()> {
     let mut line = [0u8; LINE];
     let end = put_reading(&mut line, number, row);
-    io::write_all(STDOUT_FILENO, written(&line, end));
+    rt.write_all(written(&line, end))
 }
 
-fn print_found(found: Found) {
+fn print_found(rt: &impl Print, found: Found) -> io::Result<()> {
     let mut line = [0u8; LINE];
     let end = put_found(&mut line, found);
-    io::write_all(STDOUT_FILENO, written(&line, end));
+    rt.write_all(written(&line, end))
 }
 
 // Writes the reply; of a writing it ends with the bytes that were lent, of a breaking current and of a report with the numbers that were
 // lent.
-pub(crate) fn print_reply(reply: Reply, text: &[u8; TEXT], table: &[f64; TABLE]) {
+pub(crate) fn print_reply(
+    rt: &impl Print,
+    reply: Reply,
+    text: &[u8; TEXT],
+    table: &[f64; TABLE],
+) -> io::Result<()> {
     match reply {
-        Reply::Ground(number) => print_number(number),
-        Reply::Reading(number, row) => print_reading(number, row),
-        Reply::Found(found) => print_found(found),
-        Reply::Written(number, size, count) => print_written(number, size, text_of(text, count)),
+        Reply::Ground(number) => print_number(rt, number),
+        Reply::Reading(number, row) => print_reading(rt, number, row),
+        Reply::Found(found) => print_found(rt, found),
+        Reply::Written(number, size, count) => print_written(
+            rt,
+            number,
+            size,
+            text_of(text, count),
+        ),
         Reply::Breaking(number, figure, count) => {
-            print_broken(number, figure, first_numbers(table, count))
+            print_broken(rt, number, figure, first_numbers(table, count))
         }
-        Reply::Report(number, count) => print_report(number, first_numbers(table, count)),
-        Reply::Error(reason) => print_error(reason),
+        Reply::Report(number, count) => print_report(rt, number, first_numbers(table, count)),
+        Reply::Error(reason) => print_error(rt, reason),
     }
 }

@@ -2,7 +2,7 @@
 ghost use Rattle.std.specs.Prelude.{◌≡◌, true, false, take};
 ghost use Rattle.console.specs.Lines.{byte_left, step_at, without_return};
 
-use libc::STDIN_FILENO;
+use std::io::Read;
 
 pub(crate) const BLOCK: usize = 4096;
 
@@ -32,17 +32,19 @@ pub(crate) struct Line {
     pub cursor: Cursor,
 }
 
-// Fills the block anew, and gives the number of bytes, 0 at the end of the input.
-fn refill(block: &mut [u8]) -> usize {
-    let got = libc::read(STDIN_FILENO, block);
-    io::count(got, block)
+// Fills the block anew, and gives the number of bytes, 0 at the end of the input. A read that fails ends it too.
+fn refill<R: Read>(input: &mut R, block: &mut [u8]) -> usize {
+    match input.read(block) {
+        Ok(n) => n,
+        Err(_) => 0,
+    }
 }
 
 // The first byte of the block filled anew.
-fn first_byte(block: &mut [u8; BLOCK]) -> Step
+fn first_byte<R: Read>(input: &mut R, block: &mut [u8; BLOCK]) -> Step
     ensures { result ≡ step_at block.new 0 result.cursor.filled }
 {
-    let filled = refill(block);
+    let filled = refill(input, block);
     Step {
         ended: filled == 0,
         byte: block[0],
@@ -52,7 +54,7 @@ fn first_byte(block: &mut [u8; BLOCK]) -> Step
 
 // The byte at the cursor, of the block as it is; where none is left there, the first of the block filled anew. No contract can say what is
 // read into it.
-fn next_byte(block: &mut [u8; BLOCK], cursor: Cursor) -> Step
+fn next_byte<R: Read>(input: &mut R, block: &mut [u8; BLOCK], cursor: Cursor) -> Step
     ensures left { byte_left cursor ≡ true → (result ≡ step_at block.old cursor.at cursor.filled) × (block.new ≡ block.old) }
     ensures refilled { byte_left cursor ≡ false → result ≡ step_at block.new 0 result.cursor.filled }
 {
@@ -69,7 +71,7 @@ fn next_byte(block: &mut [u8; BLOCK], cursor: Cursor) -> Step
             };
         }
     }
-    first_byte(block)
+    first_byte(input, block)
 }
 
 // The length without a CR that ends the line.
@@ -87,17 +89,16 @@ fn without_return(line: &[u8; LINE_ROOM], length: usize) -> usize
 }
 
 // Reads up to an LF or the end of the input. Of a line that is longer than the room the first bytes are kept.
-pub(crate) fn read_line(
+pub(crate) fn read_line<R: Read>(
+    input: &mut R,
     block: &mut [u8; BLOCK],
     cursor: Cursor,
     line: &mut [u8; LINE_ROOM],
 ) -> Line {
     let mut here = cursor;
     let mut length: usize = 0;
-    let mut turns = u64::MAX;
-    while turns > 0 {
-        turns -= 1;
-        let step = next_byte(block, here);
+    for _ in 0..u64::MAX {
+        let step = next_byte(input, block, here);
         here = step.cursor;
         if step.ended {
             return Line {

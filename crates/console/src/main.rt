@@ -18,6 +18,7 @@ use answers::print_reply;
 use calls::make_call;
 use input::{Cursor, LINE_ROOM, bytes_of, read_line};
 use network::study::Study;
+use std::io;
 use tables::TABLE;
 use turns::{Reason, Turn, failed};
 
@@ -47,7 +48,8 @@ fn answer(s: Study, line: &[u8], text: &mut [u8; hex::TEXT], table: &mut [f64; T
     make_call(s, line, text, table)
 }
 
-fn main() {
+fn main(rt: HostRuntime) -> io::Result<()> {
+    let mut input = rt.stdin();
     let mut block = [0u8; input::BLOCK];
     let mut line = [0u8; LINE_ROOM];
     let mut text = lent_text();
@@ -55,17 +57,16 @@ fn main() {
     let empty = network::calls::start(6);
     let mut study = empty.study;
     let mut cursor = Cursor { at: 0, filled: 0 };
-    let mut turns = u64::MAX;
-    while turns > 0 {
-        turns -= 1;
-        let got = read_line(&mut block, cursor, &mut line);
+    for _ in 0..u64::MAX {
+        let got = read_line(&mut input, &mut block, cursor, &mut line);
         if got.ended {
-            return;
+            return Ok(());
         }
         cursor = got.cursor;
         let turn = answer(study, bytes_of(&line, got.length), &mut text, &mut table);
         let reply = turn.reply;
-        print_reply(reply, &text, &table);
+        print_reply(&rt, reply, &text, &table)?;
         study = turn.study;
     }
+    Ok(())
 }

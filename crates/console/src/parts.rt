@@ -6,8 +6,8 @@ ghost use Rattle.console.specs.Answers.{chunk, chunk_count, chunk_of, hex_text, 
 use crate::hex::put_hex;
 use crate::input::part;
 use crate::words::after;
-use libc::STDOUT_FILENO;
 use printing::{LINE, put, put_next, put_number, written};
+use std::io;
 
 // How many bytes' digits fill a line.
 const CHUNK: usize = 128;
@@ -38,32 +38,35 @@ fn chunks(count: usize) -> usize
     count / CHUNK + 1
 }
 
-fn write_head(number: u32, size: usize) {
+fn write_head(rt: &impl Print, number: u32, size: usize) -> io::Result<()> {
     let mut line = [0u8; LINE];
     let end = put_head(&mut line, number, size);
-    io::write_all(STDOUT_FILENO, written(&line, end));
+    rt.write_all(written(&line, end))
 }
 
-fn write_chunk(bytes: &[u8], k: usize)
+fn write_chunk(rt: &impl Print, bytes: &[u8], k: usize) -> io::Result<()>
     requires { k * chunk ≤ length bytes.now }
 {
     let mut line = [0u8; LINE];
     let end = put_chunk(&mut line, bytes, k);
-    io::write_all(STDOUT_FILENO, written(&line, end));
+    rt.write_all(written(&line, end))
 }
 
-fn write_hex(bytes: &[u8]) {
-    let total = chunks(bytes.len());
-    let mut k: usize = 0;
-    while k < total {
-        write_chunk(bytes, k);
-        k += 1;
+fn write_hex(rt: &impl Print, bytes: &[u8]) -> io::Result<()> {
+    for k in 0..chunks(bytes.len()) {
+        write_chunk(rt, bytes, k)?;
     }
+    Ok(())
 }
 
 // What a call gave that was lent bytes, and all of these after it.
-pub(crate) fn print_written(number: u32, size: usize, lent: &[u8]) {
-    write_head(number, size);
-    write_hex(lent);
-    io::write_all(STDOUT_FILENO, b"\n");
+pub(crate) fn print_written(
+    rt: &impl Print,
+    number: u32,
+    size: usize,
+    lent: &[u8],
+) -> io::Result<()> {
+    write_head(rt, number, size)?;
+    write_hex(rt, lent)?;
+    rt.write_all(b"\n")
 }

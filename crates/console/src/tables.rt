@@ -4,8 +4,8 @@ ghost use Rattle.printing.specs.Line.{room, after_text};
 ghost use Rattle.printing.specs.Printed.{whole_of, decimal, next_text};
 ghost use Rattle.console.specs.Answers.{table_filler, broken_head, numbers_text, few, few_count, few_of};
 
-use libc::STDOUT_FILENO;
 use printing::{LINE, number_of, put_next, put_number, written};
+use std::io;
 
 // The most numbers that a call is lent, and the most that a report is.
 pub(crate) const TABLE: usize = 1_100;
@@ -97,44 +97,47 @@ fn few_count(count: usize) -> usize
     count / FEW + 1
 }
 
-fn write_broken(number: u32, figure: f64) {
+fn write_broken(rt: &impl Print, number: u32, figure: f64) -> io::Result<()> {
     let mut line = [0u8; LINE];
     let end = put_broken(&mut line, number, figure);
-    io::write_all(STDOUT_FILENO, written(&line, end));
+    rt.write_all(written(&line, end))
 }
 
-fn write_report(number: u32) {
+fn write_report(rt: &impl Print, number: u32) -> io::Result<()> {
     let mut line = [0u8; LINE];
     let end = put_report(&mut line, number);
-    io::write_all(STDOUT_FILENO, written(&line, end));
+    rt.write_all(written(&line, end))
 }
 
-fn write_few(table: &[f64], k: usize)
+fn write_few(rt: &impl Print, table: &[f64], k: usize) -> io::Result<()>
     requires { k * few ≤ length table.now }
 {
     let mut line = [0u8; LINE];
     let end = put_few(&mut line, table, k);
-    io::write_all(STDOUT_FILENO, written(&line, end));
+    rt.write_all(written(&line, end))
 }
 
-fn write_numbers(table: &[f64]) {
-    let total = few_count(table.len());
-    let mut k: usize = 0;
-    while k < total {
-        write_few(table, k);
-        k += 1;
+fn write_numbers(rt: &impl Print, table: &[f64]) -> io::Result<()> {
+    for k in 0..few_count(table.len()) {
+        write_few(rt, table, k)?;
     }
+    Ok(())
 }
 
 // What a call gave that was lent a table, and all of its numbers after it: of a breaking current, and of a report.
-pub(crate) fn print_broken(number: u32, figure: f64, lent: &[f64]) {
-    write_broken(number, figure);
-    write_numbers(lent);
-    io::write_all(STDOUT_FILENO, b"\n");
+pub(crate) fn print_broken(
+    rt: &impl Print,
+    number: u32,
+    figure: f64,
+    lent: &[f64],
+) -> io::Result<()> {
+    write_broken(rt, number, figure)?;
+    write_numbers(rt, lent)?;
+    rt.write_all(b"\n")
 }
 
-pub(crate) fn print_report(number: u32, lent: &[f64]) {
-    write_report(number);
-    write_numbers(lent);
-    io::write_all(STDOUT_FILENO, b"\n");
+pub(crate) fn print_report(rt: &impl Print, number: u32, lent: &[f64]) -> io::Result<()> {
+    write_report(rt, number)?;
+    write_numbers(rt, lent)?;
+    rt.write_all(b"\n")
 }

@@ -6,7 +6,10 @@ mod impedance;
 mod peak;
 mod words;
 
-fn main() {
-    impedance::all();
-    peak::all();
+use std::io;
+
+fn main(rt: HostRuntime) -> io::Result<()> {
+    let rt = &rt;
+    impedance::all(rt)?;
+    peak::all(rt)
 }

@@ -1,22 +1,21 @@
 // What a line is made of: words, an f64 by its bits in hexadecimal.
 use enclosure::Complex;
-use libc::STDOUT_FILENO;
+use std::io;
 
-pub(crate) fn text(s: &[u8]) {
-    io::write_all(STDOUT_FILENO, s);
+pub(crate) fn text(rt: &impl Print, s: &[u8]) -> io::Result<()> {
+    rt.write_all(s)
 }
 
-pub(crate) fn end() {
-    text(b"\n");
+pub(crate) fn end(rt: &impl Print) -> io::Result<()> {
+    text(rt, b"\n")
 }
 
-pub(crate) fn number(n: u64) {
-    text(b" ");
-    io::print_decimal(STDOUT_FILENO, n);
+pub(crate) fn number(rt: &impl Print, n: u64) -> io::Result<()> {
+    print!(rt; " {n}")
 }
 
-pub(crate) fn field(n: u32) {
-    number(n as u64);
+pub(crate) fn field(rt: &impl Print, n: u32) -> io::Result<()> {
+    number(rt, n as u64)
 }
 
 // The bits of x. Those of a NaN are not defined, so it gets a pattern that no number has.
@@ -28,12 +27,12 @@ fn pattern(x: f64) -> u64 {
     }
 }
 
-pub(crate) fn bits(x: f64) {
-    text(b" ");
-    io::print_hex(STDOUT_FILENO, pattern(x), 16);
+pub(crate) fn bits(rt: &impl Print, x: f64) -> io::Result<()> {
+    let pattern = pattern(x);
+    print!(rt; " {pattern:016x}")
 }
 
-pub(crate) fn point(z: Complex) {
-    bits(z.re);
-    bits(z.im);
+pub(crate) fn point(rt: &impl Print, z: Complex) -> io::Result<()> {
+    bits(rt, z.re)?;
+    bits(rt, z.im)
 }

@@ -8,12 +8,13 @@ ghost use Rattle.reader.specs.File.{read_of};
 ghost use Rattle.printing.specs.Line.{room};
 ghost use Rattle.noldveig.specs.Rows.{bus_row, refusal_row, board_text, printed};
 
-use libc::{STDIN_FILENO, STDOUT_FILENO};
+use input::read_full;
 use network::buses_of;
 use network::query::{Amperes, Verdict, verdict_at};
 use network::report::{ROW, report, row_of};
 use network::study::{BUSES, Study, bus_total};
 use printing::{LINE, put, put_amperes, put_letter, put_next, put_number, written};
+use std::io;
 
 // One byte more than a text may have, so that a longer one is seen to be longer.
 const TEXT: usize = 65_537;
@@ -119,10 +120,11 @@ fn answer(text: &[u8], out: &mut [u8]) -> usize
     lay_refusal(out, reading.number, reading.row)
 }
 
-fn main() {
+fn main(rt: HostRuntime) -> io::Result<()> {
+    let mut input = rt.stdin();
     let mut text = [0u8; TEXT];
     let mut out = [0u8; OUTPUT];
-    let n = io::read_full(STDIN_FILENO, &mut text);
+    let n = read_full(&mut input, &mut text);
     let end = answer(&text[..n], &mut out);
-    io::write_all(STDOUT_FILENO, &out[..end]);
+    rt.write_all(&out[..end])
 }

@@ -3,9 +3,10 @@
 #![tactic(auto)]
 
 use bench::closings::closed_queries;
-use libc::{STDIN_FILENO, STDOUT_FILENO};
+use input::read_full;
 use network::calls::reopen;
 use printing::{LINE, number_of, put_number, written};
+use std::io;
 
 // The bytes that a text may have.
 const TEXT: usize = 65_536;
@@ -16,15 +17,16 @@ const LAST: u8 = 127;
 // How often the study is closed and queried: a hundred times for each bus, so often that starting and reading weigh nothing.
 const ROUNDS: u32 = 12_800;
 
-fn main() {
+fn main(rt: HostRuntime) -> io::Result<()> {
+    let mut input = rt.stdin();
     let mut text = [0u8; TEXT];
-    let n = io::read_full(STDIN_FILENO, &mut text);
+    let n = read_full(&mut input, &mut text);
     let reading = reader::read(&text[..n]);
     let opened = reopen(reading.study);
     let study = opened.study;
     let total = closed_queries(study, LAST, ROUNDS);
     let mut line = [0u8; LINE];
     let end = put_number(&mut line, 0, number_of(total));
-    io::write_all(STDOUT_FILENO, written(&line, end));
-    io::write_all(STDOUT_FILENO, b"\n");
+    rt.write_all(written(&line, end))?;
+    rt.write_all(b"\n")
 }

@@ -3,11 +3,12 @@
 #![tactic(auto)]
 
 use bench::closings::closed_reports;
-use libc::{STDIN_FILENO, STDOUT_FILENO};
+use input::read_full;
 use network::calls::reopen;
 use network::report::ROW;
 use network::study::BUSES;
 use printing::{LINE, number_of, put_number, written};
+use std::io;
 
 // The bytes that a text may have.
 const TEXT: usize = 65_536;
@@ -18,9 +19,10 @@ const TABLE: usize = BUSES * ROW;
 // How often the study is closed and reported: so often that starting and reading weigh nothing.
 const ROUNDS: u32 = 12_800;
 
-fn main() {
+fn main(rt: HostRuntime) -> io::Result<()> {
+    let mut input = rt.stdin();
     let mut text = [0u8; TEXT];
-    let n = io::read_full(STDIN_FILENO, &mut text);
+    let n = read_full(&mut input, &mut text);
     let reading = reader::read(&text[..n]);
     let opened = reopen(reading.study);
     let study = opened.study;
@@ -28,6 +30,6 @@ fn main() {
     let total = closed_reports(study, &mut table, ROUNDS);
     let mut line = [0u8; LINE];
     let end = put_number(&mut line, 0, number_of(total));
-    io::write_all(STDOUT_FILENO, written(&line, end));
-    io::write_all(STDOUT_FILENO, b"\n");
+    rt.write_all(written(&line, end))?;
+    rt.write_all(b"\n")
 }
