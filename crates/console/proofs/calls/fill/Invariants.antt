@@ -1,0 +1,13 @@
+-- `console::calls::fill` meets its contract. The invariant: the bytes that were passed are the filler. The measure is the number of bytes
+-- that are left. Assumes nothing.
+use Rattle.std.specs.Prelude.{◌≡◌, refl, [], ◌∷◌, ◌++◌, ℕ, suc, ◌-◌, ◌≤◌, ◌<◌, length, take, replicate}
+use Rattle.std.proofs.Common.{sym, ap, ◌∙◌, arith, add-one, length-set, take_all, take-suc-set, rules}
+use Rattle.std.proofs.lemmas.List.{replicate-append-replicate}
+use Rattle.console.specs.Answers.{filler}
+use Rattle.console.proofs.calls.fill.Given as goal
+
+abbrev pub invariant-loop-i : goal.invariant-loop-i
+invariant-loop-i l = (length l.lent ≡ length l.initial.lent) × (l.i ≤ length l.lent) × (take l.i l.lent ≡ replicate l.i filler)
+
+abbrev pub decreases-loop-i : goal.decreases-loop-i
+decreases-loop-i l = length l.lent - l.i
