@@ -1,5 +1,5 @@
 -- `console::answer` has the effect of its line, too long or not. Assumes nothing.
-use Rattle.std.proofs.Common.{◌∙◌, rules}
+use Rattle.std.proofs.Common.{◌∙◌}
 use Rattle.network.specs.Network.{network}
 use Rattle.console.specs.laws.EffectsLaw.{line_long, line_call}
 use Rattle.console.proofs.answer.Goals as goal

@@ -1,5 +1,5 @@
 -- Laws of effects: which of its cases the effect of a line is. Assumes nothing.
-use Rattle.std.specs.Prelude.{ℕ, ◌+◌, ◌/◌, ◌≤◌, ◌<◌, refl, Bool, cond, ◌&&◌, drop, get_or, replicate, Float, List}
+use Rattle.std.specs.Prelude.{ℕ, ◌+◌, ◌/◌, ◌≤◌, ◌<◌, Bool, ◌&&◌, drop, get_or, replicate, Float, List}
 use Rattle.std.proofs.Common.{◌∙◌, ap, arith, get_or-drop, leb-true, leb-false, le-leb, lt-ltb, le-ltb}
 use Rattle.std.proofs.Math.Path.{◌≡◌, sym}
 use Rattle.std.proofs.Math.Bool.{true, false}
@@ -18,7 +18,6 @@ use Rattle.network.specs.Report.{report_number, reported}
 use Rattle.network.specs.Tables.{table_after}
 use Rattle.breaking.specs.Breaking.{breaking_number, figure_after}
 use Rattle.breaking.specs.Doubles.{part_at, table_of, figure_at}
-use Rattle.console.specs.declared.hex.Decoded.{Decoded}
 use Rattle.console.specs.declared.hex.Decoded.TheVariants.{Bytes, Broken}
 use Rattle.console.specs.declared.turns.Reason.{Reason}
 use Rattle.console.specs.declared.turns.Reason.TheVariants.{Hex, Room, Unknown, Long}

@@ -1,5 +1,5 @@
 -- `console::answers::put_found` meets its contract: the five texts follow one another, and there is room for them. Assumes nothing.
-use Rattle.std.proofs.Common.{ap, ◌∙◌, rules}
+use Rattle.std.proofs.Common.{ap, ◌∙◌}
 use Rattle.printing.specs.laws.Line.{after_both, first_is_text}
 use Rattle.printing.specs.Printed.{whole_of}
 use Rattle.console.specs.Answers.{found_line}

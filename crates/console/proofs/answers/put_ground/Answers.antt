@@ -1,5 +1,4 @@
 -- `console::answers::put_ground` meets its contract: the two texts follow one another, and there is room for them. Assumes nothing.
-use Rattle.std.proofs.Common.{rules}
 use Rattle.printing.specs.laws.Line.{after_both, first_is_text}
 use Rattle.console.specs.Answers.{number_line}
 use Rattle.console.specs.laws.Answers.{number_fits}

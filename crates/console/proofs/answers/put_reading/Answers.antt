@@ -1,5 +1,4 @@
 -- `console::answers::put_reading` meets its contract: the three texts follow one another, and there is room for them. Assumes nothing.
-use Rattle.std.proofs.Common.{rules}
 use Rattle.printing.specs.laws.Line.{after_both, first_is_text}
 use Rattle.console.specs.Answers.{reading_line}
 use Rattle.console.specs.laws.Answers.{reading_fits}

@@ -1,8 +1,6 @@
 -- `console::calls::fill` meets its contract. The invariant: the bytes that were passed are the filler. The measure is the number of bytes
 -- that are left. Assumes nothing.
-use Rattle.std.specs.Prelude.{◌≡◌, refl, [], ◌∷◌, ◌++◌, ℕ, suc, ◌-◌, ◌≤◌, ◌<◌, length, take, replicate}
-use Rattle.std.proofs.Common.{sym, ap, ◌∙◌, arith, add-one, length-set, take_all, take-suc-set, rules}
-use Rattle.std.proofs.lemmas.List.{replicate-append-replicate}
+use Rattle.std.specs.Prelude.{◌≡◌, ◌-◌, ◌≤◌, length, take, replicate}
 use Rattle.console.specs.Answers.{filler}
 use Rattle.console.proofs.calls.fill.Given as goal
 

@@ -1,6 +1,6 @@
 -- `console::calls::make_breaking` has its effect, with room and without, and keeps the study. Assumes nothing.
 use Rattle.std.specs.Prelude.{◌≡◌, refl, ℕ, ◌-◌, get_or, replicate}
-use Rattle.std.proofs.Common.{ap, ◌∙◌, take_at, arith, rules}
+use Rattle.std.proofs.Common.{ap, ◌∙◌, take_at, arith}
 use borrow.Rule.Slice.PartMut.{mid_len}
 use Rattle.network.specs.Network.{network}
 use Rattle.network.specs.Tables.{table_after}
@@ -20,7 +20,7 @@ returns-then-count-table c =
     let room = get_or v 2 0 in
     let all : room - 0 ≡ room = omega arith in
     let lent = mid_len 0 room a.table.now c.if-count-table.true ∙ all in
-    let first = take_at _ _ room (done.auto.1.1.1.0 ∙ lent) in
+    let first = take_at _ _ room (done.auto.table ∙ lent) in
     let parts = breaking_parts n (get_or v 0 0) (get_or v 1 0) room _ _ _ (done.ensures.number ∙ ap (breaking_number n (get_or v 0 0) (get_or v 1 0)) lent) done.ensures.figure
     (first ∙ done.ensures.table ∙ ap (λ (k : ℕ). table_after done.result.number (table_of (part_at n (get_or v 0 0) (get_or v 1 0)) n.sources) (replicate k table_filler)) lent) in
     record { study = refl; effect = λ text h. parts ∙ table_lent n v (omega arith) ∙ numbers_taken (exactly 3) (breaking_by n) n _ _ c.numbers_of-n.ensures _ c.takes.ensures c.if-takes.true }

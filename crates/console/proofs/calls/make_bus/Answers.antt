@@ -1,6 +1,6 @@
 -- `console::calls::make_bus` has its effect, with so many numbers or without. Assumes nothing.
 use Rattle.std.specs.Prelude.{Bool, ◌&&◌}
-use Rattle.std.proofs.Common.{◌∙◌, ap, ap₂, rules}
+use Rattle.std.proofs.Common.{◌∙◌, ap, ap₂}
 use Rattle.network.specs.Network.{network}
 use Rattle.network.specs.Grounds.{bus_number, after_bus}
 use Rattle.network.specs.declared.study.Bus.{Bus}

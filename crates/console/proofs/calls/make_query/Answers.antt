@@ -1,6 +1,6 @@
 -- `console::calls::make_query` has its effect, with one number or without, and keeps the study. Assumes nothing.
 use Rattle.std.specs.Prelude.{refl}
-use Rattle.std.proofs.Common.{◌∙◌, ap, rules}
+use Rattle.std.proofs.Common.{◌∙◌, ap}
 use Rattle.network.specs.Network.{network}
 use Rattle.network.specs.declared.query.Found.{Found}
 use Rattle.console.specs.Answers.{found_line}

@@ -1,5 +1,5 @@
 -- `console::calls::make_reopen` has its effect. Assumes nothing.
-use Rattle.std.proofs.Common.{◌∙◌, ap₂, rules}
+use Rattle.std.proofs.Common.{◌∙◌, ap₂}
 use Rattle.console.specs.Effects.{ground}
 use Rattle.console.proofs.calls.make_reopen.Goals as goal
 

@@ -1,6 +1,6 @@
 -- `console::calls::make_replace` has its effect, with so many numbers or without. Assumes nothing.
 use Rattle.std.specs.Prelude.{Bool, ◌&&◌, get_or}
-use Rattle.std.proofs.Common.{◌∙◌, ap, ap₂, rules}
+use Rattle.std.proofs.Common.{◌∙◌, ap, ap₂}
 use Rattle.network.specs.Network.{network}
 use Rattle.network.specs.Grounds.{replace_number, after_replace}
 use Rattle.network.specs.declared.study.Source.{Source}

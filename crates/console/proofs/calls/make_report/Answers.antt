@@ -1,6 +1,6 @@
 -- `console::calls::make_report` has its effect, with room and without, and keeps the study. Assumes nothing.
 use Rattle.std.specs.Prelude.{◌≡◌, refl, ℕ, ◌-◌, length, get_or, replicate}
-use Rattle.std.proofs.Common.{ap, ◌∙◌, take_at, arith, rules}
+use Rattle.std.proofs.Common.{ap, ◌∙◌, take_at, arith}
 use borrow.Rule.Slice.PartMut.{mid_len}
 use Rattle.network.specs.Network.{network}
 use Rattle.network.specs.Report.{report_number, reported}
@@ -20,7 +20,7 @@ returns-then-count-table c =
     let all : room - 0 ≡ room = omega arith in
     let within = report_within room (length a.table.now) c.if-count-table.true in
     let lent = mid_len 0 room a.table.now within.1 ∙ all in
-    let first = take_at _ _ room (done.auto.1.0 ∙ lent) in
+    let first = take_at _ _ room (done.auto.table ∙ lent) in
     let parts = report_parts n room _ _ (done.ensures.number ∙ ap (report_number n) lent)
     (first ∙ done.ensures.table ∙ ap (λ (k : ℕ). table_after done.result (reported n) (replicate k table_filler)) lent) in
     record { study = refl; effect = λ text h. parts ∙ report_lent n v within.0 ∙ numbers_taken (exactly 1) (report_by n) n _ _ c.numbers_of-n.ensures _ c.takes.ensures c.if-takes.true }

@@ -1,5 +1,5 @@
 -- `console::calls::make_start` has its effect, with one number or without. Assumes nothing.
-use Rattle.std.proofs.Common.{◌∙◌, ap₂, rules}
+use Rattle.std.proofs.Common.{◌∙◌, ap₂}
 use Rattle.network.specs.Network.{network}
 use Rattle.console.specs.Effects.{exactly, ground, start_by}
 use Rattle.console.specs.laws.EffectsLaw.{numbers_taken, numbers_wrong}

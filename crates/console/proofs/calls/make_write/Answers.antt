@@ -1,6 +1,6 @@
 -- `console::calls::make_write` has its effect, with room and without, and keeps the study. Assumes nothing.
 use Rattle.std.specs.Prelude.{◌≡◌, refl, ℕ, ◌-◌, get_or, replicate}
-use Rattle.std.proofs.Common.{ap, ◌∙◌, take_at, arith, rules}
+use Rattle.std.proofs.Common.{ap, ◌∙◌, take_at, arith}
 use borrow.Rule.Slice.PartMut.{mid_len}
 use Rattle.network.specs.Network.{network}
 use Rattle.writer.specs.Writing.{write_number, write_length, after_write}
@@ -18,7 +18,7 @@ returns-then-count-text c =
     let room = get_or v 0 0 in
     let all : room - 0 ≡ room = omega arith in
     let lent = mid_len 0 room a.text.now c.if-count-text.true ∙ all in
-    let first = take_at _ _ room (done.auto.1.0 ∙ lent) in
+    let first = take_at _ _ room (done.auto.lent ∙ lent) in
     let parts = write_parts n room _ _ _ (done.ensures.number ∙ ap (write_number n) lent) (done.ensures.length ∙ ap (write_length n) lent) (first ∙ done.ensures.lent ∙ ap (λ (k : ℕ). after_write n (replicate k filler)) lent) in
     record { study = refl; effect = λ table h. parts ∙ room_lent n v (omega arith) ∙ numbers_taken (exactly 1) (write_by n) n _ _ c.numbers_of-n.ensures _ c.takes.ensures c.if-takes.true }
 

@@ -1,6 +1,5 @@
-use Rattle.std.specs.Prelude.{◌≡◌, refl, ◌++◌, ◌+◌, ◌-◌, ◌/◌, ◌≤◌, ◌<◌, length, take, drop}
-use Rattle.std.proofs.Common.{◌∙◌, length-set, arith, rules}
-use Rattle.console.specs.Lines.{hex_pairs, hex_bytes}
+use Rattle.std.specs.Prelude.{◌≡◌, refl, ◌+◌, ◌/◌, ◌<◌, length}
+use Rattle.std.proofs.Common.{◌∙◌, length-set, arith}
 use Rattle.console.specs.laws.Lines.{pairs_odd, pairs_high, pairs_low, decoded_more, decoded_byte, decoded_broken, decoded_long, decoded_whole, decoded_bytes}
 use Rattle.console.proofs.hex.decode.Goals as goal
 
@@ -8,10 +7,14 @@ pub overflow_add-n : goal.overflow_add-n
 overflow_add-n c = omega arith
 
 pub returns-then-n-digits : goal.returns-then-n-digits
-returns-then-n-digits c = decoded_broken c.args.digits.now (pairs_odd c.args.digits.now (length c.args.digits.now / 2) (omega arith))
+returns-then-n-digits c =
+    let both = decoded_broken c.args.digits.now (pairs_odd c.args.digits.now (length c.args.digits.now / 2) (omega arith)) in
+    record { result = both.0; bytes = both.1 }
 
 pub returns-then-n-gt-TEXT : goal.returns-then-n-gt-TEXT
-returns-then-n-gt-TEXT c = decoded_long c.args.digits.now (omega arith)
+returns-then-n-gt-TEXT c =
+    let both = decoded_long c.args.digits.now (omega arith) in
+    record { result = both.0; bytes = both.1 }
 
 pub loop-i-init : goal.loop-i-init
 loop-i-init c = (omega arith, (omega arith, (omega arith, (refl, (refl, λ h. refl)))))
@@ -35,13 +38,15 @@ pub returns-then-high-ge16 : goal.returns-then-high-ge16
 returns-then-high-ge16 c =
     let l = c.loop-i in
     let digits = c.args.digits.now in
-    decoded_broken digits (l.invariant.1.1.1.1.0 ∙ pairs_high digits (l.i + l.i) 0 (omega arith) (omega (arith, c.digit-high.ensures)))
+    let both = decoded_broken digits (l.invariant.1.1.1.1.0 ∙ pairs_high digits (l.i + l.i) 0 (omega arith) (omega (arith, c.digit-high.ensures))) in
+    record { result = both.0; bytes = both.1 }
 
 pub returns-then-low-ge16 : goal.returns-then-low-ge16
 returns-then-low-ge16 c =
     let l = c.loop-i in
     let digits = c.args.digits.now in
-    decoded_broken digits (l.invariant.1.1.1.1.0 ∙ pairs_low digits (l.i + l.i) 0 (omega arith) (omega (arith, c.digit-high.ensures)) (omega (arith, c.digit-low.ensures)))
+    let both = decoded_broken digits (l.invariant.1.1.1.1.0 ∙ pairs_low digits (l.i + l.i) 0 (omega arith) (omega (arith, c.digit-high.ensures)) (omega (arith, c.digit-low.ensures))) in
+    record { result = both.0; bytes = both.1 }
 
 pub bounds-text-i : goal.bounds-text-i
 bounds-text-i c = omega arith

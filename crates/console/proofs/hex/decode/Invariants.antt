@@ -1,8 +1,6 @@
 -- `console::hex::decode` decodes as its definition says. The invariant: what is decoded and what is left make the whole. Assumes nothing.
-use Rattle.std.specs.Prelude.{◌≡◌, refl, ◌++◌, ◌+◌, ◌-◌, ◌/◌, ◌≤◌, ◌<◌, length, take, drop}
-use Rattle.std.proofs.Common.{◌∙◌, length-set, arith, rules}
+use Rattle.std.specs.Prelude.{◌≡◌, ◌++◌, ◌+◌, ◌-◌, ◌≤◌, length, take, drop}
 use Rattle.console.specs.Lines.{hex_pairs, hex_bytes}
-use Rattle.console.specs.laws.Lines.{pairs_odd, pairs_high, pairs_low, decoded_more, decoded_byte, decoded_broken, decoded_long, decoded_whole, decoded_bytes}
 use Rattle.console.proofs.hex.decode.Given as goal
 
 abbrev pub invariant-loop-i : goal.invariant-loop-i

@@ -1,5 +1,5 @@
 -- `console::hex::digit` is the digit of its definition, range by range. Assumes nothing.
-use Rattle.std.proofs.Common.{arith, rules}
+use Rattle.std.proofs.Common.{arith}
 use Rattle.console.specs.laws.Lines.{digit_number, digit_capital, digit_small, none_below, none_before_capitals, none_before_small, none_above}
 use Rattle.console.proofs.hex.digit.Goals as goal
 

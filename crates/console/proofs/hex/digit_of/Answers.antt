@@ -1,5 +1,5 @@
 -- `console::hex::digit_of` meets its contract: the test is the one that the definition makes. Assumes nothing.
-use Rattle.std.proofs.Common.{rules, lt-ltb, le-ltb}
+use Rattle.std.proofs.Common.{lt-ltb, le-ltb}
 use Rattle.console.specs.Answers.{hex_digit}
 use Rattle.console.proofs.hex.digit_of.Goals as goal
 

@@ -1,5 +1,4 @@
 -- `console::hex::put_byte` meets its contract: the two digits are those of the halves. Assumes nothing.
-use Rattle.std.proofs.Common.{rules}
 use Rattle.console.proofs.hex.put_byte.Goals as goal
 
 pub returns : goal.returns

@@ -1,5 +1,5 @@
-use Rattle.std.specs.Prelude.{◌≡◌, refl, List, ℕ, suc, ◌+◌, ◌-◌, ◌≤◌, ◌<◌, length, drop, get_or}
-use Rattle.std.proofs.Common.{sym, ◌∙◌, arith, add-one, drop_of_length-le, drop-cons, rules}
+use Rattle.std.specs.Prelude.{◌≡◌, refl, List, ℕ, suc, ◌+◌, ◌<◌, length, drop, get_or}
+use Rattle.std.proofs.Common.{sym, ◌∙◌, arith, add-one, drop_of_length-le, drop-cons}
 use Rattle.printing.specs.Line.{Line, after_text}
 use Rattle.printing.specs.laws.Line.{after_both}
 use Rattle.console.specs.Answers.{hex_byte, hex_text}
@@ -21,7 +21,7 @@ loop-i-preserved c =
     let l = c.loop-i in
     let bytes = c.args.bytes.now in
     let h = c.loop-i-test.true in
-    (omega arith, next-digits (l.line, l.to) (c.put_byte-to.new.0, c.put_byte-to.result) bytes l.i h c.put_byte-to.ensures ∙ l.invariant.1)
+    (omega arith, next-digits (l.line, l.to) (c.put_byte-to.new.line, c.put_byte-to.result) bytes l.i h c.put_byte-to.ensures ∙ l.invariant.1)
 
 pub returns : goal.returns
 unfolding after_text hex_text

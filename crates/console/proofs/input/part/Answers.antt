@@ -1,6 +1,6 @@
 -- `console::input::part` meets its contract: where the slice has no more bytes, the first bytes are all of them. Assumes nothing.
 use Rattle.std.specs.Prelude.{◌≡◌, ◌-◌}
-use Rattle.std.proofs.Common.{sym, arith, rules, take_all}
+use Rattle.std.proofs.Common.{sym, arith, take_all}
 use Rattle.console.proofs.input.part.Goals as goal
 
 pub returns-then-length-bytes : goal.returns-then-length-bytes

@@ -1,6 +1,6 @@
 -- `console::input::without_return` meets its contract, by its cases: a CR at the end, another byte there, a line that fills its room, none.
 -- Assumes nothing.
-use Rattle.std.proofs.Common.{rules, lt-ltb, le-ltb, eq-eqb, ne_eqb}
+use Rattle.std.proofs.Common.{lt-ltb, le-ltb, eq-eqb, ne_eqb}
 use Rattle.console.specs.Lines.{without_return}
 use Rattle.console.proofs.input.without_return.Goals as goal
 

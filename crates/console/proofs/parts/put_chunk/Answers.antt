@@ -1,6 +1,6 @@
 -- `console::parts::put_chunk` meets its contract: the bytes are those of the chunk, and there is room for their digits. Assumes nothing.
 use Rattle.std.specs.Prelude.{List, ℕ, take}
-use Rattle.std.proofs.Common.{ap, ◌∙◌, rules}
+use Rattle.std.proofs.Common.{ap, ◌∙◌}
 use Rattle.printing.specs.laws.Line.{first_is_text}
 use Rattle.console.specs.Answers.{chunk, chunk_of}
 use Rattle.console.specs.laws.Answers.{chunk_fits}

@@ -1,5 +1,4 @@
 -- `console::parts::put_head` meets its contract: the three texts follow one another, and there is room for them. Assumes nothing.
-use Rattle.std.proofs.Common.{rules}
 use Rattle.printing.specs.laws.Line.{after_both, first_is_text}
 use Rattle.console.specs.Answers.{written_head}
 use Rattle.console.specs.laws.Answers.{head_fits}

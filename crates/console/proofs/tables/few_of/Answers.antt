@@ -1,6 +1,6 @@
 -- `console::tables::few_of` meets its contract. Assumes nothing.
-use Rattle.std.specs.Prelude.{◌≡◌, List, ◌-◌, ◌*◌, length, take, drop, Float}
-use Rattle.std.proofs.Common.{ap, ◌∙◌, arith, length-drop, take_all, rules}
+use Rattle.std.specs.Prelude.{List, ◌-◌, ◌*◌, length, take, drop, Float}
+use Rattle.std.proofs.Common.{ap, ◌∙◌, arith, length-drop, take_all}
 use Rattle.console.specs.Answers.{few, few_of}
 use Rattle.console.proofs.tables.few_of.Goals as goal
 

@@ -1,5 +1,5 @@
-use Rattle.std.specs.Prelude.{◌≡◌, refl, [], ◌∷◌, ◌++◌, ℕ, suc, ◌-◌, ◌≤◌, ◌<◌, length, take, replicate}
-use Rattle.std.proofs.Common.{sym, ap, ◌∙◌, arith, add-one, length-set, take_all, take-suc-set, rules}
+use Rattle.std.specs.Prelude.{◌≡◌, refl, [], ◌∷◌, ◌++◌, ℕ, suc, ◌<◌, length, replicate}
+use Rattle.std.proofs.Common.{sym, ap, ◌∙◌, arith, add-one, length-set, take_all, take-suc-set}
 use Rattle.std.proofs.lemmas.List.{replicate-append-replicate}
 use Rattle.std.specs.Float.Ieee.{of_bits, of_int}
 use Rattle.console.specs.Answers.{table_filler}

@@ -1,9 +1,6 @@
 -- `console::tables::fill_table` meets its contract. The invariant: the numbers that were passed are 7. The measure is the number of
 -- numbers that are left. Assumes nothing.
-use Rattle.std.specs.Prelude.{◌≡◌, refl, [], ◌∷◌, ◌++◌, ℕ, suc, ◌-◌, ◌≤◌, ◌<◌, length, take, replicate}
-use Rattle.std.proofs.Common.{sym, ap, ◌∙◌, arith, add-one, length-set, take_all, take-suc-set, rules}
-use Rattle.std.proofs.lemmas.List.{replicate-append-replicate}
-use Rattle.std.specs.Float.Ieee.{of_bits, of_int}
+use Rattle.std.specs.Prelude.{◌≡◌, ◌-◌, ◌≤◌, length, take, replicate}
 use Rattle.console.specs.Answers.{table_filler}
 use Rattle.console.proofs.tables.fill_table.Given as goal
 

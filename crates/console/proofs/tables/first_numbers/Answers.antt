@@ -1,6 +1,6 @@
 -- `console::tables::first_numbers` meets its contract: where the slice has no more numbers, the first are all of them. Assumes nothing.
 use Rattle.std.specs.Prelude.{◌≡◌, ◌-◌}
-use Rattle.std.proofs.Common.{sym, arith, rules, take_all}
+use Rattle.std.proofs.Common.{sym, arith, take_all}
 use Rattle.console.proofs.tables.first_numbers.Goals as goal
 
 pub returns-then-count-table : goal.returns-then-count-table

@@ -1,5 +1,4 @@
 -- `console::tables::put_broken` meets its contract: the two texts follow one another, and there is room for them. Assumes nothing.
-use Rattle.std.proofs.Common.{rules}
 use Rattle.printing.specs.laws.Line.{after_both, first_is_text}
 use Rattle.console.specs.Answers.{broken_head}
 use Rattle.console.specs.laws.Answers.{broken_head_fits}

@@ -1,5 +1,4 @@
 -- `console::tables::put_few` meets its contract: the numbers are a few of the table, and there is room for them. Assumes nothing.
-use Rattle.std.proofs.Common.{rules}
 use Rattle.printing.specs.laws.Line.{first_is_text}
 use Rattle.console.specs.laws.Answers.{few_fit}
 use Rattle.console.proofs.tables.put_few.Goals as goal

@@ -1,6 +1,6 @@
-use Rattle.std.specs.Prelude.{◌≡◌, refl, List, ℕ, suc, ◌+◌, ◌-◌, ◌≤◌, ◌<◌, length, drop, get_or, Float}
+use Rattle.std.specs.Prelude.{◌≡◌, refl, List, ℕ, suc, ◌+◌, ◌<◌, length, drop, get_or, Float}
 use Rattle.std.specs.Float.{nan}
-use Rattle.std.proofs.Common.{sym, ◌∙◌, arith, add-one, drop_of_length-le, drop-cons, rules}
+use Rattle.std.proofs.Common.{sym, ◌∙◌, arith, add-one, drop_of_length-le, drop-cons}
 use Rattle.printing.specs.Printed.{whole_of, next_text}
 use Rattle.printing.specs.Line.{Line, after_text}
 use Rattle.printing.specs.laws.Line.{after_both}
@@ -23,7 +23,7 @@ loop-i-preserved c =
     let l = c.loop-i in
     let numbers = c.args.numbers.now in
     let h = c.loop-i-test.true in
-    (omega arith, next_number (l.line, l.to) (c.put_whole-to.new.0, c.put_whole-to.result) numbers l.i h c.put_whole-to.ensures ∙ l.invariant.1)
+    (omega arith, next_number (l.line, l.to) (c.put_whole-to.new.line, c.put_whole-to.result) numbers l.i h c.put_whole-to.ensures ∙ l.invariant.1)
 
 pub returns : goal.returns
 unfolding after_text numbers_text

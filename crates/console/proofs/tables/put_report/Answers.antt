@@ -1,5 +1,4 @@
 -- `console::tables::put_report` meets its contract: there is room for the number. Assumes nothing.
-use Rattle.std.proofs.Common.{rules}
 use Rattle.printing.specs.laws.Line.{first_is_text}
 use Rattle.console.specs.laws.Answers.{decimal_fits}
 use Rattle.console.proofs.tables.put_report.Goals as goal

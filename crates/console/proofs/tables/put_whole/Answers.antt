@@ -1,5 +1,4 @@
 -- `console::tables::put_whole` meets its contract. Assumes nothing.
-use Rattle.std.proofs.Common.{rules}
 use Rattle.console.proofs.tables.put_whole.Goals as goal
 
 pub returns : goal.returns

@@ -1,6 +1,6 @@
 -- `console::words::after` meets its contract: the part goes up to the end, and past the end there is nothing. Assumes nothing.
 use Rattle.std.specs.Prelude.{◌-◌, length, drop}
-use Rattle.std.proofs.Common.{sym, ◌∙◌, arith, length-drop, drop_of_length-le, take_all, rules}
+use Rattle.std.proofs.Common.{sym, ◌∙◌, arith, length-drop, drop_of_length-le, take_all}
 use Rattle.std.proofs.Math.Seq.{drop-length}
 use Rattle.console.proofs.words.after.Goals as goal
 

@@ -1,6 +1,5 @@
-use Rattle.std.specs.Prelude.{◌≡◌, refl, ◌≤◌, ◌-◌, length, drop}
+use Rattle.std.specs.Prelude.{refl}
 use Rattle.std.proofs.Common.{sym, ◌∙◌, arith}
-use Rattle.console.specs.Lines.{begins_with}
 use Rattle.console.specs.laws.Lines.{begins_short, begins_next, begins_other, begins_all}
 use Rattle.console.proofs.words.begins.Goals as goal
 

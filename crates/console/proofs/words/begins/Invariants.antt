@@ -1,8 +1,6 @@
 -- `console::words::begins` is the test of its definition. The invariant: what is left of the word decides. Assumes nothing.
-use Rattle.std.specs.Prelude.{◌≡◌, refl, ◌≤◌, ◌-◌, length, drop}
-use Rattle.std.proofs.Common.{sym, ◌∙◌, arith}
+use Rattle.std.specs.Prelude.{◌≡◌, ◌≤◌, ◌-◌, length, drop}
 use Rattle.console.specs.Lines.{begins_with}
-use Rattle.console.specs.laws.Lines.{begins_short, begins_next, begins_other, begins_all}
 use Rattle.console.proofs.words.begins.Given as goal
 
 abbrev pub invariant-loop-i : goal.invariant-loop-i

@@ -1,5 +1,5 @@
 -- `console::words::is` is the test of its definition. Assumes nothing.
-use Rattle.std.proofs.Common.{eq-eqb, ne_eqb, rules}
+use Rattle.std.proofs.Common.{eq-eqb, ne_eqb}
 use Rattle.console.proofs.words.is.Goals as goal
 
 pub returns-then-line-word : goal.returns-then-line-word
