@@ -87,7 +87,7 @@ fn lay_bus(out: &mut [u8], at: usize, bus: u32, amperes: Amperes, verdict: Verdi
 // Lays the rows of all buses of a closed study, from one report.
 fn lay_board(out: &mut [u8], s: Study) -> usize
     requires room_in_bounds { max_buses * room ≤ length out.old }
-    requires s_value { (network s).closed ≡ true }
+    requires closed { (network s).closed ≡ true }
     ensures place { result ≤ max_buses * room }
     ensures text { take result out.new ≡ board_text (network s) }
 {

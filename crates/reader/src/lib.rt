@@ -93,7 +93,7 @@ fn closed_after(row: u32, s: Study) -> Reading
 // The rows from a place on, behind the first row, which began the study: added part by part, up to the first that is refused.
 fn read_records(text: &[u8], from: usize, begun: Study) -> Reading
     requires text_len_bound { length text.now ≤ max_bytes }
-    requires le_from { (1 ≤ from) × (from ≤ length text.now + 2) }
+    requires place { (1 ≤ from) × (from ≤ length text.now + 2) }
     ensures { outcome_of result ≡ read_from 1 (network begun) (rows (drop from text.now)) }
 {
     let mut study = begun;

@@ -3,7 +3,7 @@ use Rattle.std.specs.Prelude.{ℕ, ◌+◌, ◌-◌, ◌*◌, ◌/◌, ◌≤◌
 use Rattle.std.proofs.Common.{arith, le_trans, mul-le-mul, mul-le-mul_right, div-mul-le_self, le-div_iff_mul-le, le-leb}
 use Rattle.std.proofs.lemmas.Bool.{lt-leb}
 use Rattle.enclosure.specs.Exact.{root_of}
-use Rattle.enclosure.specs.laws.Root.{root_is, root_le, root_below, root_greatest, root_up_reaches, root_up_least}
+use Rattle.enclosure.specs.laws.Root.{root_is, root_le, root_below_law, root_greatest, root_up_reaches, root_up_least}
 use Rattle.elements.specs.Factors.{factor_c, sine_of, ux_of, split_of}
 
 pub factor_c_above : (tolerance volts : ℕ) → 1000 < volts → factor_c tolerance volts ≡ 110
@@ -39,11 +39,11 @@ ux_greatest uk u_r w h = root_greatest ((uk * uk - u_r * u_r) * 1000000) w (omeg
 
 pub ux_most : (uk u_r : ℕ) → ux_of uk u_r ≤ 1000 * uk
 unfolding ux_of
-ux_most uk u_r = omega (arith, root_below ((uk * uk - u_r * u_r) * 1000000) (1000 * uk + 1) (omega arith))
+ux_most uk u_r = omega (arith, root_below_law ((uk * uk - u_r * u_r) * 1000000) (1000 * uk + 1) (omega arith))
 
 pub ux_none : (uk u_r : ℕ) → uk ≤ u_r → ux_of uk u_r ≡ 0
 unfolding ux_of
-ux_none uk u_r l = omega (arith, root_below ((uk * uk - u_r * u_r) * 1000000) 1 (omega (arith, mul-le-mul l l)))
+ux_none uk u_r l = omega (arith, root_below_law ((uk * uk - u_r * u_r) * 1000000) 1 (omega (arith, mul-le-mul l l)))
 
 pub split_fits : (ρ : ℕ) → split_of ρ * split_of ρ * (10000 + ρ * ρ) ≤ 10000000000000000
 unfolding split_of
@@ -65,4 +65,4 @@ product_most {a} {b} h k =
     mul-le-mul l m
 
 pub root_fits : {x r : ℕ} → r ≡ root_of x → x < 18446744073709551616 → r < 4294967296
-root_fits {x} {r} e h = rw e (root_below x 4294967296 h)
+root_fits {x} {r} e h = rw e (root_below_law x 4294967296 h)

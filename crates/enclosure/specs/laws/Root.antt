@@ -57,8 +57,8 @@ root_up_least zero n h = zero-le
 root_up_least (suc x) n h = below_of_squares (root_of x) n (omega (arith, (root_is x).low))
 
 -- ---- a step of the code: from s, the root of x / 4, to that of x
-pub root_below : (x m : ℕ) → x < m * m → root_of x < m
-root_below x m h = below_of_squares (root_of x) m (omega (arith, (root_is x).low))
+pub root_below_law : (x m : ℕ) → x < m * m → root_of x < m
+root_below_law x m h = below_of_squares (root_of x) m (omega (arith, (root_is x).low))
 
 pub root_more : (x s : ℕ) → s ≡ root_of (x / 4) → (2 * s + 1) * (2 * s + 1) ≤ x → 2 * s + 1 ≡ root_of x
 root_more x s e h = root_unique x (2 * s + 1) (root_of x) (record { low = h; high = up s (rw e (root_is (x / 4))) }) (root_is x)
@@ -74,7 +74,7 @@ root_same x s e h = root_unique x (2 * s) (root_of x) (record { low = low s (rw 
 
 -- within 64 bits: the root of x / 4 is below 2³¹
 pub quarter_below : (x s : ℕ) → s ≡ root_of (x / 4) → x < 2 ^ 64 → s < 2 ^ 31
-quarter_below x s e h = rw e (root_below (x / 4) (2 ^ 31) (omega arith))
+quarter_below x s e h = rw e (root_below_law (x / 4) (2 ^ 31) (omega arith))
 
 pub square_fits : (s : ℕ) → s < 2 ^ 31 → (2 * s + 1) * (2 * s + 1) < 2 ^ 64
 square_fits s h = lt_of_le_of_lt (mul-le-mul {n₁ = 2 * s + 1} {m₁ = 2 * s + 1} {n₂ = 4294967295} {m₂ = 4294967295} (omega arith) (omega arith)) (lit< tt)

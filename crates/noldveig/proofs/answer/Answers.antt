@@ -13,7 +13,7 @@ lay_board-requires c =
     let read = c.read-reading.ensures in
     let text = c.args.text.now in
     let number : (read_of text).number ≡ 0 = sym read.number ∙ c.if-reading-eq0.true in
-    record { room_in_bounds = search rules; s_value = ap (λ (n : Network). n.closed) read.network ∙ read_closed text number }
+    record { room_in_bounds = search rules; closed = ap (λ (n : Network). n.closed) read.network ∙ read_closed text number }
 
 pub returns-then-reading-eq0 : goal.returns-then-reading-eq0
 returns-then-reading-eq0 c =

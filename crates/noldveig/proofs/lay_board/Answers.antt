@@ -72,5 +72,5 @@ returns c =
     let last : l.b ≡ length n.buses = omega (arith, total, l.invariant.1, c.loop-b-test.false) in
     let held : Holds n made.new.table buses.result c.bus_total-total.result = λ b h.
     let k : b < length n.buses = omega (arith, total) in
-    (report_rows n _ made.new.table made.result made.ensures.number made.ensures.table c.requires.s_value room-enough b k, sym (get_or-take (length n.buses) buses.result b blank k) ∙ ap (λ (x : List Bus). bus_at x b) buses.ensures) in
+    (report_rows n _ made.new.table made.result made.ensures.number made.ensures.table c.requires.closed room-enough b k, sym (get_or-take (length n.buses) buses.result b blank k) ∙ ap (λ (x : List Bus). bus_at x b) buses.ensures) in
     record { place = omega (arith, l.invariant.0, l.invariant.1, l.invariant.2); text = l.invariant.4 n held ∙ ap (rows_text n) last }

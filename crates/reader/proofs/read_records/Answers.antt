@@ -10,7 +10,7 @@ use Rattle.reader.proofs.read_records.Goals as goal
 use Rattle.reader.proofs.read_records.Goals.{After-add_all-added, After-add_all-added}
 
 pub loop-at-init : goal.loop-at-init
-loop-at-init c = let r = c.requires.le_from in (omega arith, r.0, r.1, refl)
+loop-at-init c = let r = c.requires.place in (omega arith, r.0, r.1, refl)
 
 -- the rows of a part lie between its place and the next, so that their numbers fit
 fits : (c : After-add_all-added) → c.loop-at.row + c.add_all-added.result.accepted ≤ c.part_of-part.result.next

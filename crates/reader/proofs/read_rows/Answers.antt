@@ -47,7 +47,7 @@ pub overflow_add-end : goal.overflow_add-end
 overflow_add-end c = let h = c.row_end-end.ensures.1 in record { fits = omega (arith, h, c.requires.1) }
 
 pub read_records-requires : goal.read_records-requires
-read_records-requires c = record { text_len_bound = c.requires.1; le_from = (omega arith, omega (arith, c.row_end-end.ensures.1)) }
+read_records-requires c = record { text_len_bound = c.requires.1; place = (omega arith, omega (arith, c.row_end-end.ensures.1)) }
 
 pub returns : goal.returns
 returns c =

@@ -10,12 +10,12 @@ module _ {A B : Type 0} (add : A → A → A) (add' : B → B → B) (In : ℕ �
     (in_more : (i j : ℕ) (x : A) → i ≤ j → In i x → In j x)
     (in_add : (i j : ℕ) (x x' : A) → In i x → In j x' → In (i + j) (add x x'))
     (more : (j k : ℕ) (x : A) (y : B) → j ≤ k → R j x y → R k x y)
-    (Near-add : (k : ℕ) (x x' : A) (y y' : B) → k ≤ limit → In J x → In J x' → R k x y → R k x' y' → R (k + a) (add x x') (add' y y')) where
+    (near_add : (k : ℕ) (x x' : A) (y y' : B) → k ≤ limit → In J x → In J x' → R k x y → R k x' y' → R (k + a) (add x x') (add' y y')) where
   one : (j k k₀ : ℕ) (x x' : A) (y y' : B) (s : Bool) → k₀ ≤ k → k ≤ limit → j + e ≤ J → In j x × R k x y → (s ≡ true → In e x' × R k₀ x' y')
       → In (j + e) (cond s (add x x') x) × R (k + a) (cond s (add x x') x) (cond s (add' y y') y)
   one j k k₀ x x' y y' true m l u h g = (
     in_add j e x x' h.0 (g refl).0,
-    Near-add k x x' y y' l (in_more j J x (omega arith) h.0) (in_more e J x' (omega arith) (g refl).0) h.1 (more k₀ k x' y' m (g refl).1),
+    near_add k x x' y y' l (in_more j J x (omega arith) h.0) (in_more e J x' (omega arith) (g refl).0) h.1 (more k₀ k x' y' m (g refl).1),
   )
   one j k k₀ x x' y y' false m l u h g = (in_more j (j + e) x (omega arith) h.0, more k (k + a) x y (omega arith) h.1)
 
@@ -47,7 +47,7 @@ module _ {A B : Type 0} (G : Gather A) (H : Gather B) (p : ℕ → ℕ) (n : ℕ
     (in_more : (f b i j : ℕ) (x : A) → i ≤ j → In f b i x → In f b j x)
     (in_add : (f b i j : ℕ) (x x' : A) → In f b i x → In f b j x' → In f b (i + j) (G.add x x'))
     (more : (j k : ℕ) (x : A) (y : B) → j ≤ k → R j x y → R k x y)
-    (Near-add : (f b k : ℕ) (x x' : A) (y y' : B) → f ≤ F → b < n → k ≤ limit → In f b (s + e * n) x → In f b (s + e * n) x' → R k x y → R k x' y' → R (k + a) (G.add x x') (H.add y y'))
+    (near_add : (f b k : ℕ) (x x' : A) (y y' : B) → f ≤ F → b < n → k ≤ limit → In f b (s + e * n) x → In f b (s + e * n) x' → R k x y → R k x' y' → R (k + a) (G.add x x') (H.add y y'))
     (own : (f b : ℕ) → f ≤ F → b < n → In f b s (G.own b) × R k₀ (G.own b) (H.own b))
     (through : (f b i k : ℕ) (x : A) (y : B) → f < F → b < n → i < n → joined p b i ≡ true → k₀ ≤ k → k + c ≤ limit → In f i (s + e * n) x → R k x y
     → In (suc f) b e (G.through b i x) × R (k + c) (G.through b i x) (H.through b i y)) where
@@ -59,7 +59,7 @@ module _ {A B : Type 0} (G : Gather A) (H : Gather B) (p : ℕ → ℕ) (n : ℕ
       let h = own (suc fuel) b l m in
       let r =
       over_inside G.add H.add (In (suc fuel) b) R (s + e * n) limit a e (in_more (suc fuel) b) (in_add (suc fuel) b) more
-      (λ k x x' y y' q. Near-add (suc fuel) b k x x' y y' l m q)
+      (λ k x x' y y' q. near_add (suc fuel) b k x x' y y' l m q)
       (neighbour p b w) (λ i. G.through b i (walk G p n fuel i b)) (λ i. H.through b i (walk H p n fuel i b)) (G.own b) (H.own b) s (k + c) (k + c) n
       (omega arith) (omega arith) (omega arith) (h.0, more k₀ (k + c) _ _ (omega arith) h.1)
       (λ i q g. let v = walk_inside fuel i b (omega arith) q (omega arith) in through fuel b i k _ _ (omega arith) m q (neighbour_joined p b w i g).0 (omega arith) (omega arith) v.0 v.1) in
