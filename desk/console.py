@@ -1,4 +1,4 @@
-"""Asks target/bin/console about a study that noldveig accepts: it reads the study, and answers each call on it with a line."""
+"""Asks crates/console/out/console about a study that noldveig accepts: it reads the study, and answers each call on it with a line."""
 from desk.program import CONSOLE, PROGRAM, output
 from desk.show import shown
 from desk.trouble import Trouble

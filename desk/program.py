@@ -7,8 +7,8 @@ from desk.building import ensure
 from desk.revision import ROOT
 from desk.trouble import Trouble, reason
 
-PROGRAM = ROOT / "target/bin/noldveig"
-CONSOLE = ROOT / "target/bin/console"  # what desk/console.py asks
+PROGRAM = ROOT / "crates/noldveig/out/noldveig"
+CONSOLE = ROOT / "crates/console/out/console"  # what desk/console.py asks
 
 
 class Refusal(NamedTuple):
