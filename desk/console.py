@@ -4,7 +4,7 @@ from desk.show import shown
 from desk.trouble import Trouble
 from desk.words import words_of
 
-ANEW = f"; where it is older than this folder, `rt check {CONSOLE.name}` builds it anew"
+ANEW = f"; where it is older than this folder, `rt run` in crates/{CONSOLE.name} builds it anew"
 
 
 def answers(text, calls):

@@ -1,4 +1,4 @@
-"""Runs the proved programs of target/bin, and takes the answer of noldveig apart. One that is not of the sources here rt builds first."""
+"""Runs the proved programs, which rt builds as crates/NAME/out/NAME, and takes the answer of noldveig apart. One that is not of the sources here rt builds first."""
 import functools
 import subprocess
 from typing import NamedTuple

@@ -1,4 +1,4 @@
-"""What a program of target/bin is made from: the crates that it stands on, as crates.txt lists them, by the content of their files."""
+"""What a program is made from: the crates that it stands on, as crates.txt lists them, by the content of their files."""
 import functools
 import hashlib
 import os
@@ -23,7 +23,7 @@ def needed(root, name):
     found, left = set(), [name]
     while left:
         crate = left.pop()
-        if crate not in found and (root / "crates" / crate).is_dir():  # what is not there is a library of the kit
+        if crate not in found and (root / "crates" / crate / "src").is_dir():  # what is not there is a library of the kit
             found.add(crate)
             left += crates_of(root).get(crate, [])
     return sorted(found) if name in crates_of(root) else []
