@@ -15,7 +15,7 @@ def crates_of(root):
     except OSError:
         return {}
     entries = [line.partition("#")[0].partition(":") for line in text.splitlines()]
-    return {name.strip(): below.split() for name, colon, below in entries if colon}
+    return {head.split()[0]: below.split() for head, colon, below in entries if colon and head.strip()}
 
 
 def needed(root, name):

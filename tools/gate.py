@@ -47,7 +47,7 @@ def run(command, show=True):
 def listed_crates():
     """The names that crates.txt lists, in its order."""
     lines = [line.split("#")[0] for line in read("crates.txt").splitlines()] if os.path.isfile("crates.txt") else []
-    return [line.split(":")[0].strip() for line in lines if line.strip()]
+    return [line.split(":")[0].split()[0] for line in lines if line.split(":")[0].strip()]
 
 
 def source_files():

@@ -71,7 +71,7 @@ def refusals(edits, lines):
 def libraries_of():
     """The crates of the repository that each crate stands on, those below these among them."""
     lines = [line.split("#")[0].partition(":") for line in read("crates.txt").splitlines()]
-    listed = {name.strip(): words.split() for name, _, words in lines if name.strip()}
+    listed = {head.split()[0]: words.split() for head, _, words in lines if head.strip()}
 
     def below(name):
         own = [word for word in listed.get(name, []) if word in listed]
@@ -120,7 +120,7 @@ class Copies:
     def begin(self, top, names):
         """Makes the folder of a copy, with its list of crates."""
         (top / ".git").mkdir(parents=True)  # rt wants crates.txt at the top of its repository
-        lines = [line for line in read("crates.txt").splitlines() if line.split("#")[0].partition(":")[0].strip() in names]
+        lines = [line for line in read("crates.txt").splitlines() if {*line.split("#")[0].partition(":")[0].split()[:1]} & {*names}]
         write(top, {"crates.txt": "".join(line + "\n" for line in lines)})
         if os.path.isfile("HANDLES"):
             shutil.copy("HANDLES", top)

@@ -105,7 +105,7 @@ def crates_below(root, *tops):
     for line in read(root, 'crates.txt').split('\n'):
         if ':' in line and not line.startswith('#'):
             name, rest = line.split(':', 1)
-            needs[name.strip()] = rest.split()
+            needs[name.split()[0]] = rest.split()
     todo, seen = list(tops or PROGRAMS), []
     while todo:
         name = todo.pop()
