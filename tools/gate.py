@@ -95,7 +95,7 @@ def layout(crates):
 # ---- rt ci
 
 def prove(crates, edits):
-    """Runs rt ci: what the crates count that it proved and whose programs wrote what they should, and what its edits count."""
+    """Runs rt ci: what the crates count that it proved and whose programs wrote what they should, what its edits count, and those crates."""
     status, lines, count = run(["rt", "ci"])
     failed = {word for line in lines if line.startswith("rt: FAILED:") for word in line.split()[2:]}
     proved = {found[1] for line in lines if (found := SAID_PROVED.match(line))}
@@ -112,7 +112,28 @@ def prove(crates, edits):
     if not sound and not reasons and not of_edits[2]:
         reasons.append(f"rt ci: status {status} and the count {count}, for {len(crates)} crates and {len(edits)} edits"
                        + "".join("; " + line for line in lines[-3:-1]))
-    return (len(crates) - len(bad), len(bad), reasons), of_edits
+    return (len(crates) - len(bad), len(bad), reasons), of_edits, [name for name in crates if name not in bad]
+
+
+def noting_programs(crates):
+    """What notes, once rt ci has ended, that the programs of these crates are of the sources that are here now: `board` asks such a program,
+    and has none built again. Nothing where the repository has no board."""
+    if not os.path.isdir("desk"):
+        return lambda passed: None
+    sys.path.insert(1, os.getcwd())
+    from desk.building import place_of, record
+    from desk.sources import sources_digest
+    root = Path.cwd()
+    sources = {name: sources_digest(root, name) for name in crates if os.path.isfile(f"crates/{name}/src/main.rt")}
+
+    def note(passed):
+        for name in set(passed) & set(sources):
+            program = root / f"crates/{name}/out/{name}"
+            if program.is_file():
+                place_of(program).parent.mkdir(exist_ok=True)
+                record(program, sources[name])
+
+    return note
 
 
 # ---- the other tests
@@ -161,7 +182,9 @@ def shown_parts(pool, crates, edits):
     edits and the tests begin once rt ci is over, which takes all processors."""
     began = time.monotonic()
     print("---- crates (rt ci)")
-    proof, of_edits = prove(crates, edits)
+    note = noting_programs(crates)
+    proof, of_edits, passed = prove(crates, edits)
+    note(passed)
     seconds = time.monotonic() - began
     quick = QuickEdits(pool)
     quick.let()

@@ -317,9 +317,9 @@ class QuickEdits:
         """Prints what was tried, a crate after the other: what it counts, and the seconds of all runs together."""
         pairs, total = [], 0
         with self.place:
-            self.begun.result()
             for crate in self.crates:
                 lines, reasons, seconds = crate.results()
                 print("\n".join(lines), flush=True)
                 pairs, total = pairs + reasons, total + seconds
+            self.begun.result()
         return counted(pairs), total
