@@ -1,4 +1,4 @@
-/* Times whole boards of a study on standard input, proved by reports (target/staticlib/libbench.a) and in plain doubles, and the
+/* Times whole boards of a study on standard input, proved by reports (crates/bench_c/out/libbench_c.a) and in plain doubles, and the
    queries of all its buses one by one, in one process and turn about: nanoseconds, the least of many short runs. Prints a name and a
    number to a line.
    Stops where the reports and the queries do not give the same sum. */

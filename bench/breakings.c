@@ -1,4 +1,4 @@
-/* Times breaking calls of a study on standard input, proved (target/staticlib/libbench.a) and in plain doubles, and proved queries, in
+/* Times breaking calls of a study on standard input, proved (crates/bench_c/out/libbench_c.a) and in plain doubles, and proved queries, in
    one process and turn about: nanoseconds of the processor, the least of many runs; of the processor, since a run of calls takes some
    milliseconds, in which other work may well come between. Prints a name and a number to a line. Stops where the proved figure or bounds
    and the plain ones do not agree, for any bus and delay. */

@@ -1,4 +1,4 @@
-/* Times changes of the sources of a study (target/staticlib/libbench.a): of the study that is read from standard input, and of that with
+/* Times changes of the sources of a study (crates/bench_c/out/libbench_c.a): of the study that is read from standard input, and of that with
    its first source alone, to which sources are added until the table is full. Prints a name and the nanoseconds of a change to a line, the
    least of many short runs. */
 #include <stdint.h>

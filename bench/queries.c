@@ -1,4 +1,4 @@
-/* Times queries of a study on standard input, proved (target/staticlib/libbench.a) and in plain doubles, in one process and turn
+/* Times queries of a study on standard input, proved (crates/bench_c/out/libbench_c.a) and in plain doubles, in one process and turn
    about: nanoseconds, the least of many short runs. Prints a name and a number to a line. */
 #include "plain.h"
 

@@ -1,4 +1,4 @@
-/* The table of target/bin/noldveig from plain doubles, by `queries` one by one or by a whole `board`, as the first argument says; with a
+/* The table of crates/noldveig/out/noldveig from plain doubles, by `queries` one by one or by a whole `board`, as the first argument says; with a
    second one the four figures of each bus as they are. */
 #include "plain.h"
 

@@ -1,4 +1,4 @@
-/* Times writing a study that is read from standard input, proved (target/staticlib/libbench.a) and by a plain writer that checks
+/* Times writing a study that is read from standard input, proved (crates/bench_c/out/libbench_c.a) and by a plain writer that checks
    nothing, in one process and turn about: nanoseconds, the least of many short runs. Prints a name and a number to a line. Stops where
    the two do not write the same bytes. */
 #include <stdint.h>

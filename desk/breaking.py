@@ -1,4 +1,4 @@
-"""The breaking current of each bus, and the generators' shares in it: asked of target/bin/console, by its line `breaking`.
+"""The breaking current of each bus, and the generators' shares in it: asked of crates/console/out/console, by its line `breaking`.
 
 No current is calculated here. What the console answers is taken apart and tried; an answer that is not as it should be is a
 Trouble.

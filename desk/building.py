@@ -1,7 +1,8 @@
 """Has rt, the Rattle kit's command, prove and build a program: where it is not there, and where it is of other sources than those here.
 
-target/desk/NAME says from which sources a program was built, by digests: times of files mislead after `git checkout` and `cp`. Where
-it says nothing of the program and the sources that are here, rt is asked, which builds only what has changed.
+A program lies where rt builds it, as crates/NAME/out/NAME. desk/NAME beside it says from which sources it was built, by digests: times of
+files mislead after `git checkout` and `cp`. Where that says nothing of the program and the sources that are here, rt is asked, which
+proves and builds only what has changed, and runs the program on an empty input.
 """
 import contextlib
 import fcntl
@@ -21,8 +22,8 @@ FIRST = "board: proving and building the program {}, once; some minutes"
 ANEW = "board: the sources of the program {} have changed since it was built; proving and building it anew, some minutes"
 UNKNOWN = "board: the program {} may be older than its sources; proving and building it anew, some minutes"
 WAITING = "board: another call of board is building the program {}; waiting for it"
-SOON = 5  # seconds in which rt is done where nothing has changed; it takes 0.3
-UNCHANGED = re.compile(r"rt: (?:\w+ proved \(unchanged since it was last proved\)|ok, \d+ crates? proved)\n?")
+SOON = 5  # seconds in which rt is done where nothing has changed; it takes 0.5
+UNCHANGED = re.compile(r"rt: (?:nothing has changed since the last proved build, .*|running out/\w+; .*)\n?")
 
 
 class Record(NamedTuple):
@@ -35,11 +36,11 @@ class Record(NamedTuple):
 # ---- what is known of a program
 
 def root_of(program):
-    return program.parent.parent.parent
+    return program.parent.parent.parent.parent
 
 
 def place_of(program):
-    return root_of(program) / "target/desk" / program.name
+    return program.parent / "desk" / program.name
 
 
 def record_of(program):
@@ -140,15 +141,15 @@ def build(program):
     sources = sources_digest(root, name)
     anew = ANEW if there and is_recorded(program, record_of(program)) else UNKNOWN
     try:
-        child = subprocess.Popen(["rt", "check", name], cwd=root, stdin=subprocess.DEVNULL, stdout=subprocess.PIPE,
-                                 stderr=subprocess.STDOUT, encoding="utf-8", errors="replace")
+        child = subprocess.Popen(["rt", "run"], cwd=root / "crates" / name, stdin=subprocess.DEVNULL, stdout=subprocess.DEVNULL,
+                                 stderr=subprocess.PIPE, encoding="utf-8", errors="replace")
     except OSError as error:
         raise Trouble(f"rt, the Rattle kit's command, does not run: {reason(error)}") from None
     with child:
         said = heard(child, (anew if there else FIRST).format(name), SOON if there else 0)
     if child.returncode != 0 or not program.exists():
         complain("".join(said).rstrip("\n"))
-        raise Trouble(f"`rt check {name}` did not build the program{' anew' if there else ''}; what it said is above"
+        raise Trouble(f"`rt run` in crates/{name} did not build the program{' anew' if there else ''}; what it said is above"
                       + (", and the older program is not asked" if there else ""))
     record(program, sources)
 
@@ -161,7 +162,7 @@ def heard(child, begin, patience):
     said, told = [], not patience or child.poll() is None
     if told:
         complain(begin)
-    for line in child.stdout:
+    for line in child.stderr:
         said.append(line)
         if not told and not UNCHANGED.fullmatch(line):
             told = True

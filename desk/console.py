@@ -1,10 +1,10 @@
-"""Asks target/bin/console about a study that noldveig accepts: it reads the study, and answers each call on it with a line."""
+"""Asks crates/console/out/console about a study that noldveig accepts: it reads the study, and answers each call on it with a line."""
 from desk.program import CONSOLE, PROGRAM, output
 from desk.show import shown
 from desk.trouble import Trouble
 from desk.words import words_of
 
-ANEW = f"; where it is older than this folder, `rt check {CONSOLE.name}` builds it anew"
+ANEW = f"; where it is older than this folder, `rt run` in crates/{CONSOLE.name} builds it anew"
 
 
 def answers(text, calls):

@@ -24,8 +24,8 @@ what it prints
 
     The table has a row for each bus: bounds of the machines' and of the converters' initial current, the peak of both
     together, the two ratings and the verdict, all in amperes; of a plan also the bus's name. The figures come from the
-    proved program target/bin/noldveig; where it is not there yet, it is proved and built first by
-    `rt check noldveig`, which takes some minutes.
+    proved program crates/noldveig/out/noldveig; where it is not there yet, it is proved and built first by
+    `rt run` in crates/noldveig, which takes some minutes.
     If its sources in crates have changed since, it is built anew. If rt is not there, the older program answers, and
     standard error and a page say that it is older.
 
@@ -51,7 +51,7 @@ options
         out; a last line says how many generators these are and what they come to at most. Where that would be one line
         alone, it is listed instead.
         Ib contains besides the feeder and the motors with μ = 1 and the converters in full; of these there are no bounds.
-        The figures come from the proved program target/bin/console, as with --write.
+        The figures come from the proved program crates/console/out/console, as with --write.
     --units
         Everything in kV and kA in place of volts and amperes, with all digits, and a column of the short-circuit power S″k in
         MVA: √3 times the nominal voltage times the initial current of both parts, of the lower bound rounded down and of the
@@ -86,7 +86,8 @@ options
         Writes rows or a plan as tidy rows, in the same way: S, all buses, all sources with all twelve numbers, each row with
         CRLF. Buses and sources keep their order, so that no bus gets another number. It says how many there are and how many
         bytes, on standard error where the rows go to standard output, and of a plan that rows have no names. The text comes
-        from the proved program target/bin/console, which is built first by `rt check console` where it is not there yet.
+        from the proved program crates/console/out/console, which is built first by `rt run` in crates/console where it is
+        not there yet.
     --svg IN [OUT]
         Draws rows or a plan as a one-line diagram, in the same way: an SVG file with the upper bound of the initial
         current, the peak and the verdict of each bus, by colour, letter and shape. A browser opens and prints it.

@@ -1,4 +1,4 @@
-"""Runs the proved programs of target/bin, and takes the answer of noldveig apart. One that is not of the sources here rt builds first."""
+"""Runs the proved programs, which rt builds as crates/NAME/out/NAME, and takes the answer of noldveig apart. One that is not of the sources here rt builds first."""
 import functools
 import subprocess
 from typing import NamedTuple
@@ -7,8 +7,8 @@ from desk.building import ensure
 from desk.revision import ROOT
 from desk.trouble import Trouble, reason
 
-PROGRAM = ROOT / "target/bin/noldveig"
-CONSOLE = ROOT / "target/bin/console"  # what desk/console.py asks
+PROGRAM = ROOT / "crates/noldveig/out/noldveig"
+CONSOLE = ROOT / "crates/console/out/console"  # what desk/console.py asks
 
 
 class Refusal(NamedTuple):

@@ -1,4 +1,4 @@
-"""What a program of target/bin is made from: the crates that it stands on, as crates.txt lists them, by the content of their files."""
+"""What a program is made from: the crates that it stands on, as crates.txt lists them, by the content of their files."""
 import functools
 import hashlib
 import os
@@ -15,7 +15,7 @@ def crates_of(root):
     except OSError:
         return {}
     entries = [line.partition("#")[0].partition(":") for line in text.splitlines()]
-    return {name.strip(): below.split() for name, colon, below in entries if colon}
+    return {head.split()[0]: below.split() for head, colon, below in entries if colon and head.strip()}
 
 
 def needed(root, name):
@@ -23,7 +23,7 @@ def needed(root, name):
     found, left = set(), [name]
     while left:
         crate = left.pop()
-        if crate not in found and (root / "crates" / crate).is_dir():  # what is not there is a library of the kit
+        if crate not in found and (root / "crates" / crate / "src").is_dir():  # what is not there is a library of the kit
             found.add(crate)
             left += crates_of(root).get(crate, [])
     return sorted(found) if name in crates_of(root) else []

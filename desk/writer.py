@@ -1,4 +1,4 @@
-"""The text of a study as the proved writer puts it down: asked of target/bin/console, by its line `write`.
+"""The text of a study as the proved writer puts it down: asked of crates/console/out/console, by its line `write`.
 
 No row is put together here. What the console answers is taken apart and tried; an answer that is not as it should be is a Trouble.
 """

@@ -9,12 +9,15 @@ from typing import NamedTuple
 
 # A function at the top of a source file, as rt lays it out: its head with its contract, up to the line that opens the body, and the body,
 # up to the line that is a brace alone. Where parameters stand on lines of their own, a parenthesis begins the line that opens the body.
-BEGINS = r'(?:pub(?:\(\w+\))? )?(?:extern "C" )?fn (?P<name>\w+)'
+BEGINS = r'(?:#\[[^\n]*\]\n)*(?:pub(?:\(\w+\))? )?(?:extern "C" )?fn (?P<name>\w+)'
 OPENS = r"(?![^\n]*\b(?:ghost|requires|ensures)\b)[^\n]*\{\n"
 FUNCTION = re.compile(
     rf"^(?P<head>{BEGINS}(?:{OPENS}|[^\n]*\n(?:[ )][^\n]*\n)*?(?:\{{\n|\){OPENS})))(?P<body>(?:(?: [^\n]*)?\n)*?)\}}$", re.M)
-# A line that brings a function in, or what contracts name. Types and constants begin with a capital letter.
-BRINGS = re.compile(r"^(?:ghost use [^\n]*|(?:pub )?use (?:\w+::)*[a-z]\w*);\n", re.M)
+# A line that brings in what contracts name; one that brings in one item; and one that brings in several. Types and constants begin with a
+# capital letter, functions and modules do not.
+CITES = re.compile(r"^ghost use [^;]*;\n", re.M)
+BRINGS_ONE = re.compile(r"^(?:pub )?use (?:\w+::)*[a-z]\w*;\n", re.M)
+BRINGS_SOME = re.compile(r"^((?:pub )?use (?:\w+::)+)\{([^{}]*)\};\n", re.M)
 # The words of what is no part of a body, wherever it stands.
 ITEM = re.compile(r"\b(?:fn|const|static|struct|enum|type|use|mod|impl|trait|extern|ghost)\b")
 # What a body calls, as far as a name before a parenthesis shows it.
@@ -94,21 +97,30 @@ def changes_specs(edit):
     return not misplaced(edit) and all(made.file.startswith("specs/") for made in replacements(edit))
 
 
+def brought_types(found):
+    """What is left of a line that brings in several items, without functions and modules."""
+    names = [name.strip() for name in found[2].split(",") if name.strip()[:1].isupper()]
+    return f"{found[1]}{{{', '.join(names)}}};\n" if names else ""
+
+
 def without_functions(text):
     """What a source file declares besides functions; a program keeps a `main` that does nothing."""
-    return BRINGS.sub("", FUNCTION.sub(lambda found: "fn main() {\n}" if found["name"] == "main" else "", text))
+    text = FUNCTION.sub(lambda found: "fn main() {\n}" if found["name"] == "main" else "", text)
+    return BRINGS_SOME.sub(brought_types, BRINGS_ONE.sub("", CITES.sub("", text)))
 
 
 # ---- edits of one function
 
 class Change(NamedTuple):
-    """What an edit makes of the body of one function, or of its clauses, where it changes nothing else."""
+    """What an edit makes of the body of one function, or of its clauses, where it changes nothing else. The prover searches for the proof
+    of a function with no file of answers only once those that it calls are proved: these names are what it waits for."""
 
     edit: Path
     file: str
     name: str
     head: str
     body: str
+    waits: frozenset = frozenset()
 
     @property
     def function(self):
@@ -140,16 +152,49 @@ def stays_within(old, new):
     return not ITEM.search(old + new) and set(CALL.findall(new)) <= set(CALL.findall(old))
 
 
+def clause_words(head):
+    """Each line of a head with the first word of the clause that it belongs to, where it belongs to one."""
+    found, word = [], ""
+    for line in head.split("\n"):
+        if not line.startswith("        "):
+            word = line.split()[0] if line.startswith("    ") else ""
+        found.append((word, line))
+    return found
+
+
 def other_clauses(old, new):
-    """Whether two heads differ in what clauses ensure, a line each, and in nothing else."""
-    pairs = list(zip(old.split("\n"), new.split("\n")))
+    """Whether two heads differ in what clauses ensure, line by line, and in nothing else."""
+    pairs = list(zip(clause_words(old), clause_words(new)))
     return (old.count("\n") == new.count("\n")
-            and all(line == other or line.startswith("    ensures ") and other.startswith("    ensures ") for line, other in pairs))
+            and all(line == other or line[0] == other[0] == "ensures" for line, other in pairs))
 
 
 def is_called(folder, name):
     """Whether a function of the crate calls one of this name."""
     return any(name in CALL.findall(body) for path in folder.glob("src/**/*.rt") for _, body in functions_of(read(path)).values())
+
+
+def called_in(folder):
+    """What the functions of a crate call, by their names."""
+    found = {}
+    for path in folder.glob("src/**/*.rt"):
+        for name, (_, body) in functions_of(read(path)).items():
+            found.setdefault(name, set()).update(CALL.findall(body))
+    return found
+
+
+def waited_for(folder, change):
+    """The names of the functions that have to be proved before the prover searches for the proof of a change's function."""
+    answered = (path.parent.relative_to(folder / "proofs").as_posix() for path in folder.glob("proofs/**/*.antt"))
+    if change.function.replace("::", "/") in (place.replace("+", "") for place in answered):
+        return frozenset()
+    calls, found, left = called_in(folder), set(), [*CALL.findall(change.body)]
+    while left:
+        name = left.pop()
+        if name not in found and name in calls:
+            found.add(name)
+            left += calls[name]
+    return frozenset(found - {change.name})
 
 
 def change_of(edit, folder):
@@ -170,7 +215,8 @@ def change_of(edit, folder):
     (head, body), (new_head, new_body) = before[names[0]], after[names[0]]
     of_body = head == new_head and stays_within(body, new_body)
     of_clauses = body == new_body and other_clauses(head, new_head) and not is_called(folder, names[0])
-    return Change(edit, file, names[0], new_head, new_body) if of_body or of_clauses else None
+    made = Change(edit, file, names[0], new_head, new_body)
+    return made._replace(waits=waited_for(folder, made)) if of_body or of_clauses else None
 
 
 def together(changes, folder):
@@ -182,11 +228,15 @@ def together(changes, folder):
 
 
 def groups_of(changes):
-    """Puts changes into groups to be tried together, each of another function."""
+    """Puts changes into groups to be tried together, each of another function, and none that waits for another."""
     functions, groups = [change.function for change in changes], []
-    for change in sorted(changes, key=lambda change: (-functions.count(change.function), change)):
-        fitting = (group for group in groups if len(group) < MOST and change.function not in [other.function for other in group])
-        group = next(fitting, None)
+
+    def fits(change, group):
+        return len(group) < MOST and all(change.function != other.function and change.name not in other.waits
+                                         and other.name not in change.waits for other in group)
+
+    for change in sorted(changes, key=lambda change: (-functions.count(change.function), change.edit, change.file, change.name)):
+        group = next((group for group in groups if fits(change, group)), None)
         if group is None:
             groups.append(group := [])
         group.append(change)

@@ -1,7 +1,7 @@
 """The gate of this repository, started by ./test; docs/GATE.md says how it decides.
 
-Prints what each part prints, then a table of the parts, the reasons of failure, and last `N passed, M failed`. The quick must-fail edits
-begin beside rt ci, and the tests of tests/ beside the last of them; what they print stays in order."""
+Prints what each part prints, then a table of the parts, the reasons of failure, and last `N passed, M failed`. The quick must-fail edits and
+the tests of tests/ run beside each other once rt ci has ended; what they print stays in order."""
 import os
 import re
 import shutil
@@ -10,19 +10,21 @@ import sys
 import time
 from concurrent.futures import ThreadPoolExecutor
 from pathlib import Path
-from threading import Event
 
 from edits import read
 from trying import QuickEdits, listed_edits, refusals
 
 COUNT = re.compile(r"(\d+) passed, (\d+) failed")
 # The tests that take longest, which begin first, so that none of them is left to run alone at the end.
-LONG = ("check-plants", "check-judge-itself", "check-board")
+LONG = ("check-plants", "check-judge-itself", "check-board", "check-gate")
+# What rt ci says of a crate that it, or an earlier run of it on this machine, proved; where all passed; and of edits that cannot be tried.
+SAID_PROVED = re.compile(r"rt: (\w+) (?:proved$|is kept: )")
+SAID_OK = re.compile(r"rt: ok; ")
+SAID_BAD = re.compile(r"rt: (?:ok; .*must-fail edits: .*[ ,](\d+) bad\b|note: bad must-fail edits, as told above: (\d+))")
 
 
-def run(command, show=True, hear=None):
-    """Runs a command: its status, its lines, and the count on its last line, if it has one. Its lines are passed on as they come, to
-    `hear` too."""
+def run(command, show=True):
+    """Runs a command: its status, its lines, and the count on its last line, if it has one. Its lines are passed on as they come."""
     lines = []
     try:
         child = subprocess.Popen(command, stdin=subprocess.DEVNULL, stdout=subprocess.PIPE, stderr=subprocess.STDOUT,
@@ -35,8 +37,6 @@ def run(command, show=True, hear=None):
         for line in child.stdout:
             if show:
                 print(line, end="")
-            if hear:
-                hear(line)
             lines.append(line.rstrip("\n"))
     count = COUNT.fullmatch(lines[-1]) if lines else None
     return child.returncode, lines, count and (int(count[1]), int(count[2]))
@@ -47,17 +47,17 @@ def run(command, show=True, hear=None):
 def listed_crates():
     """The names that crates.txt lists, in its order."""
     lines = [line.split("#")[0] for line in read("crates.txt").splitlines()] if os.path.isfile("crates.txt") else []
-    return [line.split(":")[0].strip() for line in lines if line.strip()]
+    return [line.split(":")[0].split()[0] for line in lines if line.split(":")[0].strip()]
 
 
 def source_files():
-    """Every .rt and .antt file that git tracks, or that lies in the tree outside target/, where rt keeps what it makes."""
+    """Every .rt and .antt file that git tracks, or that lies in the tree outside a crate's out/, where rt keeps what it makes."""
     found = set()
     if shutil.which("git"):
         tracked = subprocess.run(["git", "ls-files", "-z"], stdout=subprocess.PIPE, stderr=subprocess.DEVNULL).stdout
         found.update(os.fsdecode(tracked).split("\0"))
     for folder, below, files in os.walk("."):
-        below[:] = [name for name in below if name != ".git" and (folder, name) != (".", "target")]
+        below[:] = [name for name in below if name != ".git" and not (name == "out" and os.path.dirname(folder) == "./crates")]
         found.update(os.path.relpath(os.path.join(folder, name)) for name in files)
     return sorted(name for name in found if name.endswith((".rt", ".antt")))
 
@@ -94,19 +94,46 @@ def layout(crates):
 
 # ---- rt ci
 
-def prove(crates, edits, hear):
-    """Runs rt ci, and counts the crates that it proved and whose programs wrote what they should. `hear` takes its lines as they come."""
-    status, lines, count = run(["rt", "ci"], hear=hear)
-    failed = [name for line in lines if line.startswith("rt: FAILED:") for name in line.split()[2:]]
-    bad = [name for name in failed if "/" not in name]  # NAME/LABEL is an edit, which `refusals` counts
-    bad += [name for name in crates if name not in bad and not any(line.startswith(f"rt: {name} proved (") for line in lines)]
+def prove(crates, edits):
+    """Runs rt ci: what the crates count that it proved and whose programs wrote what they should, what its edits count, and those crates."""
+    status, lines, count = run(["rt", "ci"])
+    failed = {word for line in lines if line.startswith("rt: FAILED:") for word in line.split()[2:]}
+    proved = {found[1] for line in lines if (found := SAID_PROVED.match(line))}
+    bad = [name for name in crates if name in failed or name not in proved]
     reasons = []
     for name in bad:
         functions = [line.split(": ")[0] for line in lines if re.match(rf"fn {name}::.*: (not proved|no proof)", line)]
         reasons.append(f"rt ci: {name} is not proved, or its program fails" + "".join("; " + text for text in functions))
-    if not failed and (status != 0 or count != (len(crates) + len(edits), 0)):
-        reasons.append(f"rt ci: status {status} and the count {count}, for {len(crates)} crates and {len(edits)} edits")
-    return len(crates) - len(set(bad) & set(crates)), len(bad), reasons
+    of_edits = refusals(edits, lines)
+    spoilt = max((int(found[1] or found[2]) for line in lines if (found := SAID_BAD.match(line))), default=0)
+    if spoilt:
+        reasons.append(f"rt ci: {spoilt} of its must-fail edits are bad")
+    sound = status == 0 and count == (len(crates) + len(edits), 0) and any(SAID_OK.match(line) for line in lines)
+    if not sound and not reasons and not of_edits[2]:
+        reasons.append(f"rt ci: status {status} and the count {count}, for {len(crates)} crates and {len(edits)} edits"
+                       + "".join("; " + line for line in lines[-3:-1]))
+    return (len(crates) - len(bad), len(bad), reasons), of_edits, [name for name in crates if name not in bad]
+
+
+def noting_programs(crates):
+    """What notes, once rt ci has ended, that the programs of these crates are of the sources that are here now: `board` asks such a program,
+    and has none built again. Nothing where the repository has no board."""
+    if not os.path.isdir("desk"):
+        return lambda passed: None
+    sys.path.insert(1, os.getcwd())
+    from desk.building import place_of, record
+    from desk.sources import sources_digest
+    root = Path.cwd()
+    sources = {name: sources_digest(root, name) for name in crates if os.path.isfile(f"crates/{name}/src/main.rt")}
+
+    def note(passed):
+        for name in set(passed) & set(sources):
+            program = root / f"crates/{name}/out/{name}"
+            if program.is_file():
+                place_of(program).parent.mkdir(exist_ok=True)
+                record(program, sources[name])
+
+    return note
 
 
 # ---- the other tests
@@ -150,29 +177,22 @@ def result_of(path, task):
 
 # ---- all of it
 
-def beside_rt_ci(pool, workers):
-    """Has all workers of the pool but one wait for rt ci, which takes as many processors as it can: the event to set when it is over."""
-    over = Event()
-    for _ in range(workers - 1):
-        pool.submit(over.wait)
-    return over
-
-
-def shown_parts(pool, workers, crates, edits):
+def shown_parts(pool, crates, edits):
     """The parts of the gate in the order in which they are shown: the name, what it counts and why it fails, and its seconds. The quick
-    edits of a crate begin once rt ci has proved it, the tests once rt ci is over."""
-    quick, over, began = QuickEdits(pool), beside_rt_ci(pool, workers), time.monotonic()
+    edits and the tests begin once rt ci is over, which takes all processors."""
+    began = time.monotonic()
     print("---- crates (rt ci)")
-    try:
-        proof = prove(crates, edits, quick.hear)
-    finally:
-        over.set()
-    quick.let_rest()
+    note = noting_programs(crates)
+    proof, of_edits, passed = prove(crates, edits)
+    note(passed)
+    seconds = time.monotonic() - began
+    quick = QuickEdits(pool)
+    quick.let()
     tests = let_tests(pool)
-    yield "crates (rt ci)", proof, time.monotonic() - began
-    yield "must-fail edits (rt ci)", refusals(edits), 0
-    print("---- must-fail edits (rt dev)")
-    yield "must-fail edits (rt dev)", *quick.results()
+    yield "crates (rt ci)", proof, seconds
+    yield "must-fail edits (rt ci)", of_edits, 0
+    print("---- must-fail edits (rt check)")
+    yield "must-fail edits (rt check)", *quick.results()
     for path, task in tests:
         lines, result, seconds = result_of(path, task)
         print("\n".join([f"---- {path}", *lines]))
@@ -184,7 +204,7 @@ def parts(crates, edits):
     workers = max(1, min(4, os.cpu_count() or 1))
     with ThreadPoolExecutor(workers) as pool:
         try:
-            yield from shown_parts(pool, workers, crates, edits)
+            yield from shown_parts(pool, crates, edits)
         finally:
             pool.shutdown(cancel_futures=True)  # where the gate is stopped, nothing more begins
 

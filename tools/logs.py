@@ -8,22 +8,29 @@ import re
 # that a text cannot be read, or that a file or a name is not there.
 ERROR = re.compile(r"(?!note: )(?:[^`]*?: )?error(?:\[[\w-]+\])?: (?:`([^`]+)`: )?")
 # Declarations that hold no proof: an error there says that a statement makes no sense, not that it is false.
-STATEMENT = ("Inv-", "μ-", "requires-", "ensures-")
-# Errors of a text that does not parse, or that speaks of a name, a need, a field or an argument that is not there.
+STATEMENT = ("Inv-", "μ-", "requires-", "ensures-", "invariant-", "measure-", "inv_", "measure_")
+# What is quoted, and terms and types written out, in which any word may stand.
+QUOTED = re.compile(r"`[^`]*`")
+# Errors of a text that does not parse, or that speaks of a name, a goal, a field or an argument that is not there.
 MISFIT = re.compile(
-    r"can be named from here|not in scope|no constructor `|not a constructor|operand is missing|operators of one level"
-    r"|has no field|projects from a record|not a record type|needs a function|applied to an argument but|does not define it")
-# Errors of a proof that answers another need, or that speaks of another point of the code than the one it stands for.
-ELSEWHERE = re.compile(r"but this has type `(?:[\w.]*\bNeed-|[^`\s]*\.Lts\.(?:After|Else|Then)\b)")
-# An error that follows from another.
-FOLLOWS = re.compile(r"[^`]*`[^`]+`: `[^`]+` was not admitted")
+    r"can be named from here|not in scope|is no name|has no name|no constructor |not a constructor|operand is missing|operators of one level"
+    r"|expected the end|cannot continue|has no field|has no $|projects from a record|not a record type|needs a function"
+    r"|applied to an argument but|does not define it")
+# Errors of a proof that answers another goal, or that speaks of another point of the code than the one it stands for.
+ELSEWHERE = re.compile(r"but this has type `(?:[\w.]*\bNeed-|goal\.|[^`\s]*\.Goals\.|[^`\s]*\.Lts\.(?:After|Else|Then)\b)")
+# An error that follows from another: a declaration that was not admitted, or those that depend on it.
+FOLLOWS = re.compile(r"[^`]*`[^`]+`: `[^`]+` was not admitted|[^`]*error: \d+ declarations? that depends? on ")
+# A limit that is the prover's own, which it meets without a verdict on the fact.
+LIMIT = re.compile(r"antt ran out of |outgrew the memory limit|stopped at the step limit")
 PROVED = re.compile(r"^logic=proved ", re.M)
 NOT_PROVED = re.compile(r"^logic=not-proved", re.M)
+# A function whose goals no file answers, and which are open: the prover searched for their proofs itself.
+SEARCHED = re.compile(r"\w+ .*: no proof: .*`search` did not prove ")
 # The verdict on one function or type that is not proved, and its ending where that is the fault of another that it calls.
 UNPROVED = re.compile(r"\w+ (\S+): (?:not proved|no proof)")
-BY_ANOTHER = re.compile(r"; it calls `")
-# Where an error stands that is in a function's own proof: the crate, and the function's modules and name; a + marks a recursive function.
-PLACE = re.compile(r"[^`]*?/crates/(\w+)/proofs/([^`:]+)/[^`/:]+\.antt:\d+:\d+: ")
+BY_ANOTHER = re.compile(r"[:;] it calls `")
+# Where an error stands that is in a function's own proof: the function's modules and name; a + marks a recursive function.
+PLACE = re.compile(r"(?:\./)?proofs/([^`:]+)/[^`/:]+\.antt:\d+:\d+: ")
 
 
 def entries_of(log):
@@ -45,30 +52,33 @@ def judge(log):
     entries = entries_of(log)
     errors = errors_of(entries)
     if not errors:
-        searched = any(re.match(r"fn .*: no proof: .*`search` does not close", entry) for entry in entries)
+        searched = any(SEARCHED.match(entry) for entry in entries)
         return None if searched else "refused, and the log names no fact whose proof fails"
     first = errors[0]
     name = ERROR.match(first)[1]
-    if name and not name.startswith(STATEMENT) and not MISFIT.search(first) and not ELSEWHERE.search(first):
+    if LIMIT.search(QUOTED.sub("", first)):
+        return "refused only by a limit of the prover: " + first[:240]
+    if name and not name.startswith(STATEMENT) and not MISFIT.search(QUOTED.sub("", first)[:400]) and not ELSEWHERE.search(first):
         return None
-    return "refused only for its shape: " + re.sub(r"^.*?/(?=(src|specs|proofs)/)", "", first)[:240]
+    return "refused only for its shape: " + first.removeprefix("./")[:240]
 
 
 # ---- the log of several edits that were tried together
 
-def function_of(entry):
+def function_of(entry, crate):
     """The function in whose proof an error stands, as the prover names it; for an error elsewhere a name that no function has, or None."""
     place = PLACE.match(entry)
-    return place and "::".join([place[1], *place[2].replace("/+", "/").removeprefix("+").split("/")])
+    return place and "::".join([crate, *place[1].replace("/+", "/").removeprefix("+").split("/")])
 
 
 def refused_each(log, functions):
-    """Those of the functions, whose bodies were changed together, that the log shows to be refused each for itself: it is not proved, and
-    the first error in its own proof is that of a fact. No function, where anything is at fault that was not changed."""
+    """Those of a crate's functions, whose bodies were changed together, that the log shows to be refused each for itself: it is not proved,
+    and the first error in its own proof is that of a fact. No function, where anything is at fault that was not changed."""
+    crate = next(iter(functions)).split("::")[0]
     entries = entries_of(log)
     verdicts = {found[1]: entry for entry in entries if (found := UNPROVED.match(entry))}
     faults = [(name, entry) for name, entry in verdicts.items() if not BY_ANOTHER.search(entry)]
-    errors = [(function_of(entry), entry) for entry in errors_of(entries)]
+    errors = [(function_of(entry, crate), entry) for entry in errors_of(entries)]
     if not NOT_PROVED.search(log) or not functions >= {name for name, _ in errors + faults}:
         return set()
     own = {name: [entry for other, entry in errors + faults if other == name] for name in verdicts}

@@ -1,18 +1,17 @@
-"""How the must-fail edits are tried.
+"""How the quick must-fail edits are tried.
 
-`rt ci` tries those of crates/NAME/must-fail/ and proves the whole crate for each. Those of must-fail/quick/ are tried here,
-by `rt dev`, which takes what an edit leaves as it was from the crate's incremental folder. That folder begins with the modules that
-`rt ci` has just checked from nothing, or empty, and the crate must be proved in it before the first edit and again after the last:
-so it is the edit that is refused. Before each the folder is as the first of these proofs left it.
+`rt ci` tries those of crates/NAME/must-fail/, each by a check of the whole crate. Those of must-fail-quick/ beside it are tried here, by
+`rt check` in copies of the repository. A copy begins with what a check of the crate as it stands proved, so that only what an edit changes
+is checked; the crate must be proved there before the first edit and again after the last, over the same files: so it is the edit that is
+refused.
 
 Edits of several functions' bodies are tried together, by one run. Each can break the proof of its own function alone: callers and laws
 know a function by its contract, which stays as it is, and a function's code is private to its own proof. So can edits of the clauses of
-functions that nothing in their crate calls: no other proof knows those clauses. Of a caller's proof only the
-last step takes the theorem of what it calls, and what the prover says of that step where there is no such theorem ("was not admitted",
-"it calls .., which is not proved") never counts. So an edit counts as refused by such a run where its function is not proved and the
-first error in that function's own proof is that of a fact, as in a run for it alone; and only where nothing is at fault that was not
-changed. Every other edit is tried alone, and what that says counts. So a group can save time, and lets no edit pass that would not be
-refused alone.
+functions that nothing in their crate calls: no other proof knows those clauses. Of a caller's proof only the last step takes the theorem
+of what it calls, and what the prover says of that step where there is no such theorem ("it calls .., which is not proved") never counts.
+So an edit counts as refused by such a run where its function is not proved and the first error in that function's own proof is that of a
+fact, as in a run for it alone; and only where nothing is at fault that was not changed. Every other edit is tried alone, and what that
+says counts. So a group can save time, and lets no edit pass that would not be refused alone.
 
 An edit of specs/ is tried first on the crate without its functions: its types, constants, definitions and laws. No definition and no law
 rests on a function, so a law that fails there fails in the whole crate. An edit that is not refused there is tried on the whole."""
@@ -24,16 +23,20 @@ import tempfile
 import time
 from contextlib import contextmanager
 from pathlib import Path
-from threading import Lock
+from threading import Condition
 
 from edits import change_of, changes_specs, edited, groups_of, misplaced, read, together, without_functions
-from logs import PROVED, judge, refused_each
+from logs import NOT_PROVED, PROVED, judge, refused_each
 
-# What rt ci says of a crate once its library is written.
-SAID_PROVED = re.compile(r"rt: (\w+) proved \(")
-# Files in memory, and the room that the copies of up to four crates need there, with what rt writes beside them.
-MEMORY = "/dev/shm"
-ROOM = 4 << 30
+# The folder of a crate that holds its quick edits. It lies beside must-fail/, since rt ci takes each file below that for an edit of its own.
+QUICK = "must-fail-quick"
+# What a crate is checked from, as rt reads it.
+PARTS = ("src", "specs", "proofs")
+# What rt ci says of an edit.
+TRIED = re.compile(r"rt: must-fail (\w+/\S+): (.*)")
+# What it says of one that a proof's failure refuses, and the words behind that where it was something else.
+AS_IT_MUST = "refused, as it must be"
+WEAKLY = f"{AS_IT_MUST} (only "
 REFUSED = "refused, a proof no longer goes through"
 
 
@@ -47,227 +50,276 @@ def counted(reasons):
 
 def listed_edits():
     """What lies in the folders that rt ci tries."""
-    return sorted(path for path in Path("crates").glob("*/must-fail/*") if path.name != "quick")
+    return sorted(Path("crates").glob("*/must-fail/*"))
 
 
-def tried(edit):
-    log = Path("target/must-fail", edit.parts[1], edit.stem, ".log")
-    return judge(read(log)) if log.is_file() else "it has no log: rt ci did not try it"
+def refusals(edits, lines):
+    """Counts the edits that rt ci tried and that were refused because a fact no longer holds, by what it said of them."""
+    said = dict(found.groups() for line in lines if (found := TRIED.match(line)))
+
+    def wrong(edit):
+        words = said.get(f"{edit.parts[1]}/{edit.name}")
+        if words is None:
+            return "rt ci did not try it"
+        return None if words.startswith(AS_IT_MUST) and not words.startswith(WEAKLY) else words[:300]
+
+    return counted([(edit, misplaced(edit) or wrong(edit)) for edit in edits])
 
 
-def refusals(edits):
-    """Counts the edits that rt ci tried and that were refused because a fact no longer holds."""
-    return counted([(edit, misplaced(edit) or tried(edit)) for edit in edits])
+# ---- copies of the repository
+
+def libraries_of():
+    """The crates of the repository that each crate stands on, those below these among them."""
+    lines = [line.split("#")[0].partition(":") for line in read("crates.txt").splitlines()]
+    listed = {head.split()[0]: words.split() for head, _, words in lines if head.strip()}
+
+    def below(name):
+        own = [word for word in listed.get(name, []) if word in listed]
+        return {library for word in own for library in (word, *below(word))}
+
+    return {name: below(name) for name in listed}
 
 
-# ---- a copy of the repository
-
-def work_place(memory=MEMORY, room=ROOM):
-    """Where the copies are made: in memory if it has the room, since a disk makes small files slowly, or else where temporary files lie."""
+def with_link(source, target):
+    """Gives what a check made a second name, or copies it where it can't have one. rt makes such a file anew, and never writes into it."""
     try:
-        roomy = os.access(memory, os.W_OK) and shutil.disk_usage(memory).free >= room
+        os.link(source, target)
     except OSError:
-        roomy = False
-    return memory if roomy else tempfile.gettempdir()
+        shutil.copy2(source, target)
 
 
-def copy_proved(folder, proved):
-    """Makes the folder a copy of the repository, with the libraries that rt ci has proved."""
-    (folder / ".git").mkdir()  # rt wants crates.txt at the top of its repository
-    shutil.copy("crates.txt", folder)
-    shutil.copytree("crates", folder / "crates")
-    (folder / "target/stamp").mkdir(parents=True)
-    for library in (name for name in proved if os.path.isfile(f"target/stamp/{name}") and os.path.isdir(f"target/rlib/{name}.rlib")):
-        shutil.copytree(f"target/rlib/{library}.rlib", folder / f"target/rlib/{library}.rlib")
-        shutil.copy(f"target/stamp/{library}", folder / "target/stamp")
+def with_kept(source, target):
+    """The same of what a check keeps, of which only checked modules are never written into."""
+    (with_link if source.endswith(".oantt") else shutil.copy2)(source, target)
 
 
-def develop(folder, name):
-    """What rt dev says of a crate. What rt keeps for one run lies in the folder too: it copies some 1,700 files each time."""
-    own = folder / "own"
-    own.mkdir(exist_ok=True)
-    done = subprocess.run(["rt", "dev", name], cwd=folder, stdin=subprocess.DEVNULL, stdout=subprocess.PIPE, stderr=subprocess.STDOUT,
-                          env={**os.environ, "TMPDIR": str(own)}, encoding="utf-8", errors="replace")
+def check(top, name, *words):
+    """What rt check says of a crate of a copy. A check that gave no verdict, killed for memory perhaps, is tried once more."""
+    for _ in range(2):
+        done = subprocess.run(["rt", "check", *words], cwd=top / "crates" / name, stdin=subprocess.DEVNULL, stdout=subprocess.PIPE,
+                              stderr=subprocess.STDOUT, encoding="utf-8", errors="replace")
+        if PROVED.search(done.stdout) or NOT_PROVED.search(done.stdout) or done.returncode > 0:
+            break
     return done.stdout
 
-
-def begin_with_checked(folder, name, first):
-    """Gives the crate's incremental folder the modules that rt ci checked for its library. rt dev takes each whose source is the same; a
-    program has none, and is checked from nothing. What rt calls the folder within shows in that of the first crate, which is small."""
-    checked = folder / f"target/rlib/{name}.rlib/toolchain/checked"
-    if name != first and checked.is_dir():
-        develop(folder, first)
-        for made in (folder / "target/inc" / first).glob("*"):
-            shutil.copytree(checked, folder / "target/inc" / name / made.name)
-
-
-def same(made, kept):
-    return made.is_file() and (made.stat().st_mtime_ns, made.stat().st_size) == (kept.stat().st_mtime_ns, kept.stat().st_size)
-
-
-def put_back(made, kept):
-    """Makes a folder what it was when its files were copied to `kept`: what was checked of an edit need not be checked again without it."""
-    for path in [path for path in made.rglob("*") if path.is_file() and not (kept / path.relative_to(made)).exists()]:
-        path.unlink()
-    for path in [path for path in kept.rglob("*") if path.is_file() and not same(made / path.relative_to(kept), path)]:
-        shutil.copy2(path, made / path.relative_to(kept))
-
-
-# ---- those that rt dev tries
 
 def write(folder, texts):
     for file, text in texts.items():
         (folder / file).write_text(text, encoding="utf-8")
 
 
-def log_with(folder, name, texts):
-    """What rt dev says of the crate with these texts in place of its files. The crate and its incremental folder are then put back."""
-    crate, made = folder / "crates" / name, folder / "target/inc" / name
-    before = {file: read(crate / file) for file in texts}
-    write(crate, texts)
-    log = develop(folder, name)
-    write(crate, before)
-    put_back(made, folder / "kept")
-    return log
+class Copies:
+    """A copy of the repository, in which each crate with quick edits is checked once, and copies of a crate and what it stands on."""
 
+    def __init__(self, place):
+        self.place, self.top, self.libraries = place, place / "whole", libraries_of()
+        self.begin(self.top, self.libraries)
+        for name in self.libraries:
+            self.parts(Path("crates", name), self.top / "crates" / name)
 
-def try_edit(folder, name, edit):
-    """What is wrong with an edit that is tried alone: a reason, or None."""
-    try:
-        texts = edited(edit, folder / "crates" / name)
-    except (ValueError, OSError) as error:
-        return f"BAD EDIT: {error}"
-    return judge(log_with(folder, name, texts))
+    def begin(self, top, names):
+        """Makes the folder of a copy, with its list of crates."""
+        (top / ".git").mkdir(parents=True)  # rt wants crates.txt at the top of its repository
+        lines = [line for line in read("crates.txt").splitlines() if {*line.split("#")[0].partition(":")[0].split()[:1]} & {*names}]
+        write(top, {"crates.txt": "".join(line + "\n" for line in lines)})
+        if os.path.isfile("HANDLES"):
+            shutil.copy("HANDLES", top)
 
+    def parts(self, crate, to):
+        to.mkdir(parents=True)
+        for part in PARTS:
+            if (crate / part).is_dir():
+                shutil.copytree(crate / part, to / part)
 
-def try_group(folder, name, group):
-    """Tries several changes together: the lines to print of the edits that are shown to be refused, by edit."""
-    began = time.monotonic()
-    log = log_with(folder, name, together(group, folder / "crates" / name))
-    refused = refused_each(log, {f"{name}::{change.function}" for change in group})
-    said = f"{REFUSED} ({time.monotonic() - began:.1f} s for {len(group)})"
-    return {change.edit: said for change in group if f"{name}::{change.function}" in refused}
-
-
-def try_groups(folder, name, edits):
-    """Tries together what can be: the lines to print of the edits that are shown to be refused, by edit."""
-    crate, lines = folder / "crates" / name, {}
-    changes = [change for change in (change_of(edit, crate) for edit in edits) if change]
-    for group in groups_of(changes):
-        if len(group) > 1:
-            lines |= try_group(folder, name, group)
-    return lines
-
-
-def try_edits(folder, name, edits, lines):
-    """Tries a crate's edits but those that have a line already: the lines to print, and each edit with what is wrong with it."""
-    left = [edit for edit in edits if edit not in lines]
-    lines, reasons = lines | try_groups(folder, name, left), []
-    for edit in edits:
-        reason = None
-        if edit not in lines:
-            began = time.monotonic()
-            reason = misplaced(edit) or try_edit(folder, name, edit)
-            lines[edit] = f"{reason or REFUSED} ({time.monotonic() - began:.1f} s)"
-        reasons.append((edit, reason))
-    return [f"must-fail quick {name}/{edit.stem}: {lines[edit]}" for edit in edits], reasons
-
-
-@contextmanager
-def copy_of(name, proved):
-    """A copy of the repository for a crate's edits, in memory if that can be, with the crates that it stands on proved."""
-    with tempfile.TemporaryDirectory(prefix="must-fail-", dir=work_place()) as place:
-        folder = Path(place)
-        copy_proved(folder, proved)
-        begin_with_checked(folder, name, proved[0] if proved else name)
-        yield folder
-
-
-def proved_before(folder, name):
-    """Whether the crate is proved without an edit; what rt dev makes then is kept, to be put back after each edit."""
-    sound = PROVED.search(develop(folder, name))
-    if sound:
-        shutil.copytree(folder / "target/inc" / name, folder / "kept")
-    return sound
-
-
-def try_definitions(name, edits, proved):
-    """Tries the edits of specs/ on the crate without its functions: the lines to print of those that are refused, by edit."""
-    lines, edits = {}, [edit for edit in edits if changes_specs(edit)]
-    if not edits:
-        return lines
-    with copy_of(name, proved) as folder:
-        crate = folder / "crates" / name
+    def bare(self, name):
+        """A copy with the crate without its functions, which are what laws do not rest on."""
+        top = self.place / f"bare-{name}"
+        self.fill(top, name, self.top)
+        crate = top / "crates" / name
         write(crate, {file.relative_to(crate): without_functions(read(file)) for file in crate.glob("src/**/*.rt")})
         shutil.rmtree(crate / "proofs", ignore_errors=True)
-        if not proved_before(folder, name):
-            return lines
-        for edit in edits:
+        return top
+
+    def fill(self, top, name, of):
+        """Makes a copy with one crate of another copy and what it stands on, and with what checks there proved."""
+        self.begin(top, {name, *self.libraries[name]})
+        for library in self.libraries[name]:
+            shutil.copytree(of / "crates" / library, top / "crates" / library, copy_function=with_link,
+                            ignore=lambda folder, names: names if Path(folder).name == "out" and "rlib" not in names else
+                            [name for name in names if Path(folder).name == "out" and name != "rlib"])
+        crate = of / "crates" / name
+        self.parts(crate, top / "crates" / name)
+        if (crate / "out/incremental").is_dir():
+            shutil.copytree(crate / "out/incremental", top / "crates" / name / "out/incremental", copy_function=with_kept)
+
+    @contextmanager
+    def one(self, name, of):
+        """A copy to try an edit of the crate in."""
+        with tempfile.TemporaryDirectory(prefix="edit-", dir=self.place) as folder:
+            top = Path(folder, "copy")
+            self.fill(top, name, of)
+            yield top
+
+
+# ---- those that rt check tries
+
+class Quick:
+    """The quick edits of a crate: what was found of each, and what is still to be tried, by the workers of a pool."""
+
+    def __init__(self, name, edits, pool):
+        self.name, self.edits, self.pool = name, edits, pool
+        self.copies, self.bare, self.is_proved = None, None, False
+        self.lines, self.reasons, self.seconds = {}, {}, 0
+        self.changed = Condition()
+
+    # what was found
+
+    def found(self, edit, reason, words=""):
+        with self.changed:
+            self.reasons[edit] = reason
+            self.lines[edit] = f"must-fail quick {self.name}/{edit.stem}: {reason or REFUSED}{words}"
+            self.changed.notify_all()
+
+    def results(self):
+        """Waits until each edit is tried: the lines to print, each edit with what is wrong with it, and the seconds of all runs."""
+        with self.changed:
+            self.changed.wait_for(lambda: len(self.reasons) == len(self.edits))
+        if self.is_proved and not PROVED.search(check(self.top, self.name)):
+            self.reasons = {edit: "rt check does not prove the crate after the edits" for edit in self.edits}
+        return [self.lines[edit] for edit in self.edits], [(edit, self.reasons[edit]) for edit in self.edits], self.seconds
+
+    # how each is tried
+
+    def begin(self, copies):
+        """Checks the crate as it stands, and hands its edits to the workers."""
+        began, self.copies = time.monotonic(), copies
+        left = [edit for edit in self.edits if not self.is_misplaced(edit)]
+        try:
+            self.is_proved = bool(PROVED.search(check(self.top, self.name)))
+            if not self.is_proved:
+                raise ValueError("rt check does not prove the crate without the edit")
+            specs = [edit for edit in left if changes_specs(edit)]
+            if specs:
+                self.begin_bare()
+            changes = [change for change in (change_of(edit, self.crate) for edit in left) if change]
+            groups = [group for group in groups_of(changes) if len(group) > 1]
+        except Exception as error:  # whatever it is, the other crates go on, and these edits fail
+            self.lose(left, error)
+            return
+        finally:
+            self.seconds += time.monotonic() - began
+        apart = {change.edit for group in groups for change in group}
+        for group in groups:
+            self.let([change.edit for change in group], self.try_group, group)
+        for edit in (edit for edit in left if edit not in apart):
+            self.let([edit], self.try_definition if self.bare and edit in specs else self.try_alone, edit)
+
+    def begin_bare(self):
+        """Checks the crate without its functions; where that is not proved, edits of definitions are tried on the whole alone."""
+        bare = self.copies.bare(self.name)
+        self.bare = bare if PROVED.search(check(bare, self.name)) else None
+
+    @property
+    def top(self):
+        return self.copies.top
+
+    @property
+    def crate(self):
+        return self.top / "crates" / self.name
+
+    def is_misplaced(self, edit):
+        try:
+            reason = misplaced(edit)
+        except OSError as error:
+            reason = f"it was not tried: {type(error).__name__}: {error}"
+        if reason:
+            self.found(edit, reason)
+        return reason
+
+    def let(self, edits, call, *given):
+        """Lets a worker make a try. An exception there fails the edits of that try alone."""
+        def work():
             began = time.monotonic()
-            if try_edit(folder, name, edit) is None:
-                lines[edit] = f"{REFUSED} ({time.monotonic() - began:.1f} s without functions)"
-        return lines if PROVED.search(develop(folder, name)) else {}
+            try:
+                call(*given)
+            except Exception as error:
+                self.lose(edits, error)
+            finally:
+                self.seconds += time.monotonic() - began
 
+        self.pool.submit(work)
 
-def try_crate(name, edits, proved):
-    """Tries a crate's quick edits in a copy of the repository with the crates that it stands on proved: the lines to print, each edit with
-    what is wrong with it, and the seconds."""
-    lines, reasons, start = [], [], time.monotonic()
-    refused = try_definitions(name, edits, proved)
-    with copy_of(name, proved) as folder:
-        sound = proved_before(folder, name)
-        if sound:
-            lines, reasons = try_edits(folder, name, edits, refused)
-        if not sound or not PROVED.search(develop(folder, name)):
-            reasons = [(edit, "rt dev does not prove the crate without the edit") for edit in edits]
-    return lines, reasons, time.monotonic() - start
+    def lose(self, edits, error):
+        why = str(error) if isinstance(error, ValueError) else f"it was not tried: {type(error).__name__}: {error}"
+        for edit in edits:
+            self.found(edit, why)
+
+    def log_with(self, of, texts):
+        """What rt check says of the crate of a copy with these texts in place of its files."""
+        with self.copies.one(self.name, of) as top:
+            write(top / "crates" / self.name, texts)
+            return check(top, self.name, "--jobs", "1")
+
+    def try_alone(self, edit, of=None):
+        began = time.monotonic()
+        try:
+            reason = judge(self.log_with(of or self.top, edited(edit, self.crate)))
+        except (ValueError, OSError) as error:
+            reason = f"BAD EDIT: {error}"
+        if of and reason:
+            self.let([edit], self.try_alone, edit)
+        else:
+            self.found(edit, reason, f" ({time.monotonic() - began:.1f} s{' without functions' if of else ''})")
+
+    def try_definition(self, edit):
+        self.try_alone(edit, self.bare)
+
+    def try_group(self, group):
+        """Tries several changes together. What is not shown to be refused is tried alone."""
+        began = time.monotonic()
+        log = self.log_with(self.top, together(group, self.crate))
+        refused = refused_each(log, {f"{self.name}::{change.function}" for change in group})
+        for change in group:
+            if f"{self.name}::{change.function}" in refused:
+                self.found(change.edit, None, f" ({time.monotonic() - began:.1f} s for {len(group)})")
+            else:
+                self.let([change.edit], self.try_alone, change.edit)
 
 
 class QuickEdits:
-    """The edits of every must-fail/quick/, a crate to a worker of a pool, begun once rt ci has proved the crate."""
+    """The quick edits of every crate: one worker of a pool checks a crate after the other, and all workers try what is ready."""
 
-    def __init__(self, pool):
-        self.pool, self.crates, self.proved, self.tasks = pool, {}, [], []
-        self.waiting, self.lock = [], Lock()
-        for edit in sorted(Path("crates").glob("*/must-fail/quick/*")):
-            self.crates.setdefault(edit.parts[1], []).append(edit)
+    def __init__(self, pool, chosen=lambda edit: True):
+        self.pool, self.place = pool, tempfile.TemporaryDirectory(prefix="must-fail-")
+        libraries, found = libraries_of(), {}
+        for edit in sorted(Path("crates").glob(f"*/{QUICK}/*")):
+            if chosen(edit):
+                found.setdefault(edit.parts[1], []).append(edit)
+        self.crates = [Quick(name, found[name], pool) for name in libraries if name in found]
 
-    def hear(self, line):
-        """Takes a line of rt ci, and lets a crate that it says is proved be tried."""
-        said = SAID_PROVED.match(line)
-        if said:
-            self.proved.append(said[1])
-            self.let(said[1])
+    def let(self):
+        """Lets the edits be tried."""
+        self.begun = self.pool.submit(self.begin)
 
-    def let(self, name):
-        """Lets a crate be tried by the next worker that is free, unless another has more edits."""
-        edits = self.crates.pop(name, None)
-        if edits:
-            with self.lock:
-                self.waiting.append((name, edits, list(self.proved)))
-            self.tasks.append(self.pool.submit(self.try_largest))
-
-    def let_rest(self):
-        """Lets the crates that rt ci did not prove be tried; rt dev says so of them."""
-        for name in list(self.crates):
-            self.let(name)
-
-    def try_largest(self):
-        """Tries the crate with the most edits of those that wait, so that none with many is left to run alone at the end."""
-        with self.lock:
-            largest = max(self.waiting, key=lambda crate: len(crate[1]))
-            self.waiting.remove(largest)
+    def begin(self):
+        if not self.crates:
+            return
         try:
-            return try_crate(*largest)
-        except Exception as error:  # whatever it is, the other parts go on, and these edits fail
-            return [], [(edit, f"it was not tried: {type(error).__name__}: {error}") for edit in largest[1]], 0
+            copies = Copies(Path(self.place.name))
+        except Exception as error:  # a full disk for instance: all these edits fail, and the tests go on
+            for crate in self.crates:
+                crate.lose(crate.edits, error)
+            return
+        for crate in self.crates:
+            crate.begin(copies)
 
     def results(self):
-        """Prints what was tried, a crate after the other: what it counts, and the seconds of all crates together."""
+        """Prints what was tried, a crate after the other: what it counts, and the seconds of all runs together."""
         pairs, total = [], 0
-        for task in self.tasks:
-            lines, reasons, seconds = task.result()
-            for line in lines:
-                print(line)
-            pairs, total = pairs + reasons, total + seconds
+        with self.place:
+            for crate in self.crates:
+                lines, reasons, seconds = crate.results()
+                print("\n".join(lines), flush=True)
+                pairs, total = pairs + reasons, total + seconds
+            self.begun.result()
         return counted(pairs), total

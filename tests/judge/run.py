@@ -1,6 +1,6 @@
 """Run the program and the console against the exact judge.
 
-python3 tests/judge/run.py --program target/bin/noldveig --console target/bin/console
+python3 tests/judge/run.py --program crates/noldveig/out/noldveig --console crates/console/out/console
     --seed 1 --networks 200 --bytes 500 --calls 100 --writes 100 --breakings 100 --units 100
     --reactances 100 --reports 100 --changes 100
 
@@ -146,8 +146,8 @@ def show(failure, count):
 
 def main(arguments=None):
     parser = argparse.ArgumentParser(description=__doc__.splitlines()[0])
-    parser.add_argument("--program", default="target/bin/noldveig")
-    parser.add_argument("--console", default="target/bin/console")
+    parser.add_argument("--program", default="crates/noldveig/out/noldveig")
+    parser.add_argument("--console", default="crates/console/out/console")
     parser.add_argument("--seed", type=int, default=1)
     parser.add_argument("--networks", type=int, default=100)
     parser.add_argument("--bytes", type=int, default=300)

@@ -105,7 +105,7 @@ def crates_below(root, *tops):
     for line in read(root, 'crates.txt').split('\n'):
         if ':' in line and not line.startswith('#'):
             name, rest = line.split(':', 1)
-            needs[name.strip()] = rest.split()
+            needs[name.split()[0]] = rest.split()
     todo, seen = list(tops or PROGRAMS), []
     while todo:
         name = todo.pop()
@@ -122,15 +122,15 @@ def module_of(path):
 
 
 def place_of(module):
-    """The same of a module's name; a place that starts with 'declared' is a type that the code declares. None for the kit."""
-    found = re.match(r'Rattle·(\w+)(?:·specs)?\.specs\.(.*)$', module)
+    """The same of a module's name; a place that starts with 'declared' is a type that the code declares. None where it is no module of specs/."""
+    found = re.match(r'Rattle\.(\w+)\.specs\.(.*)$', module)
     return found.groups() if found else None
 
 
 class Tree:
     def __init__(self, root):
-        self.root, self.files, self.at = root, {}, {}
-        for name in crates_below(root):
+        self.root, self.files, self.at, self.crates = root, {}, {}, crates_below(root)
+        for name in self.crates:
             base = os.path.join(root, 'crates', name, 'specs')
             for folder, _, entries in os.walk(base):
                 for entry in sorted(entries):
@@ -144,20 +144,23 @@ class Tree:
 
 
 def words_of(lines):
-    """The words of a text that can name something: no projections, no numbers, and no fields (`pub field : ..`, `{ field = ..; }`)."""
+    """The words of a text that can name something: no numbers, and no fields (`pub field : ..`, `{ field = ..; }`); of a projection, which is
+    written tight behind what it is of, that as well as the whole."""
     for line in lines:
         line = FIELD.sub(r'\1', line.split(' -- ')[0])
         for word in WORD.findall(line):
             word = word.rstrip('.')
             if word and not word.startswith('.') and not word[0].isdigit():
                 yield word
+                if '.' in word:
+                    yield word.split('.')[0]
 
 
 def spelled(names):
-    """Each word by which an imported name can stand in a text: `_+_` stands as `+`."""
+    """Each word by which an imported name can stand in a text: `◌+◌` stands as `+`."""
     table = {}
     for name in names:
-        for part in ([name] if '_' not in name or name.startswith('«') else [x for x in name.split('_') if x] + [name]):
+        for part in ([name] if '◌' not in name else [x for x in name.split('◌') if x] + [name]):
             table[part] = name
     return table
 
@@ -172,7 +175,8 @@ def public_modules(root, name):
     """The files of a library whose `pub fn` other crates can name, and the functions of the others that are given on by `pub use`."""
     main = read(root, f'crates/{name}/src/lib.rt')
     opened = [f'crates/{name}/src/lib.rt'] + [f'crates/{name}/src/{m}.rt' for m in re.findall(r'^pub mod (\w+);', main, re.M)]
-    given = {(f'crates/{name}/src/{m}.rt', f) for m, f in re.findall(r'^pub use (\w+)::(\w+);', main, re.M)}
+    given = {(f'crates/{name}/src/{m}.rt', f.strip()) for m, names in re.findall(r'^pub use (\w+)::\{?([^{};]*)\}?;', main, re.M)
+             for f in names.split(',')}
     return opened, given
 
 
@@ -182,13 +186,17 @@ def functions(text):
     for line in text.split('\n'):
         found = re.match(r'(pub(?:\(crate\))? )?fn (\w+)', line)
         if found:
-            head = (found.group(1) == 'pub ', found.group(2), [], [])
+            head, said = (found.group(1) == 'pub ', found.group(2), [], []), False
         if head:
-            head[2].extend(re.findall(r'⌜(.*?)⌝', line))
-            head[3].extend(name or word for word, name in re.findall(r'^    (requires|ensures) (\w*)', line))
+            clause = re.match(r'    (requires|ensures)(?: (\w+))? \{(.*)$', line)
             if line.endswith('{') and not line.startswith('    '):
                 yield head
                 head = None
+            elif clause:
+                head[3].append(clause.group(2) or clause.group(1))
+                said = True
+            if head and said:
+                head[2].append(clause.group(3) if clause else line)
 
 
 def contracts(root):
@@ -242,11 +250,11 @@ class Followed:
 
     def reached(self, module, name, why):
         target = place_of(module)
-        if target is None:
+        if target is None or target[0] not in self.tree.crates:
             self.kit.add(module)
             return []
         if target[1].startswith('declared'):
-            self.types.add((target[0], target[1].split('.the-variants')[0][len('declared.'):]))
+            self.types.add((target[0], target[1].split('.TheVariants')[0][len('declared.'):]))
             return []
         if (target, name) in self.tree.at:
             return [(target, self.tree.at[(target, name)], why)]

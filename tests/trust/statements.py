@@ -122,7 +122,7 @@ def statements(tree, page):
 def quoted(root):
     """By file, from where to where the old texts of the must-fail edits go, and the edits that do not apply."""
     found, lost = {}, []
-    for edit in sorted(Path(root).glob('crates/*/must-fail/**/*.edit')):
+    for edit in sorted(Path(root).glob('crates/*/must-fail*/**/*.edit')):
         crate = edit.relative_to(root).parts[1]
         for made in replacements(edit):
             path = f'crates/{crate}/{made.file}'
@@ -198,6 +198,6 @@ def contract_layout_faults(root):
         before = ''
         for line in read(root, path).split('\n'):
             clause = line.startswith(('    requires ', '    ensures '))
-            if re.search(r'\b(?:requires|ensures)\b.*⌜', line) and not clause or clause and not before.strip():
+            if re.search(r'^(?!\s*//).*\b(?:requires|ensures)\b.*\{', line) and not clause or clause and not before.strip():
                 yield f'{path}: this clause is not on a line below its function: {line.strip()}'
             before = line

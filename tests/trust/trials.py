@@ -16,7 +16,7 @@ def copied(root, folder):
     os.makedirs(os.path.join(folder, 'docs'))
     shutil.copy(os.path.join(root, PAGE), os.path.join(folder, PAGE))
     for name in crates_below(root):
-        for part in ('src', 'specs', 'must-fail'):
+        for part in ('src', 'specs', 'must-fail', 'must-fail-quick'):
             base = os.path.join(root, 'crates', name, part)
             if os.path.isdir(base):
                 shutil.copytree(base, os.path.join(folder, 'crates', name, part))
@@ -107,14 +107,14 @@ def loosened(folder, tree, page):
 
 def without_its_edit(folder, tree, page):
     """The edits that quote the width of the bounds taken away."""
-    for edit in Path(folder).glob('crates/network/must-fail/**/*.edit'):
+    for edit in Path(folder).glob('crates/network/must-fail*/**/*.edit'):
         if any('Narrow lower upper =' in made.old for made in replacements(edit)):
             edit.unlink()
 
 
 def hypothesis_turned_round(folder, tree, page):
     """The sameness of a query promised of open networks alone."""
-    changed(folder, 'crates/network/specs/Promise.antt', 'run ds .closed ≡ true', 'run ds .closed ≡ false')
+    changed(folder, 'crates/network/specs/Promise.antt', '(run ds).closed ≡ true', '(run ds).closed ≡ false')
 
 
 def one_function_more(folder, tree, page):
@@ -124,7 +124,7 @@ def one_function_more(folder, tree, page):
 
 
 PROMISE, REPORT, WRITE = 'crates/network/specs/Promise.antt', 'crates/network/specs/Report.antt', 'crates/writer/src/lib.rt'
-FIT = 'abbrev Fit : Network → Type 0\nFit n = n .tolerance ≡ 10\n\n'
+FIT = 'abbrev Fit : Network → Type 0\nFit n = n.tolerance ≡ 10\n\n'
 UNQUOTED, CUT = 'no must-fail edit quotes this statement whole: ', 'this is not laid out as one definition: '
 # What is wrong, the file, the old text, the new text, and what is said of it.
 CHANGES = (
@@ -134,13 +134,13 @@ CHANGES = (
     ('a statement by a signature of two lines', PROMISE, 'abbrev pub Promise : Network → ', 'abbrev pub Promise : Network\n    → ', CUT + 'abbrev pub Promise'),
     ('a comment behind a signature', PROMISE, 'Found → Type 0\n', 'Found → Type 0 -- whole\n', CUT + 'abbrev pub Promise'),
     ('a blank line in a record', PROMISE, '  pub demand :', '\n  pub demand :', CUT + 'pub demand'),
-    ('no blank line before a record', PROMISE, '\n\n-- of a network, a bus of it and', '\n-- of a network, a bus of it and', CUT + 'abbrev pub machinesOf'),
+    ('no blank line before a record', PROMISE, '\n\n-- of a network, a bus of it and', '\n-- of a network, a bus of it and', CUT + 'abbrev pub machines_of'),
     ('a name that is imported as another', REPORT, 'Call, run}', 'Call, run as made}', 'gives another name to what it imports'),
     ('a name that is defined again', REPORT, '-- "33 when', 'abbrev run : List Call → List Call\nrun cs = cs\n\n-- "33 when', 'defines run, which'),
     ('a theorem that says nothing', 'crates/network/specs/laws/Worked.antt', 'pub starred : Starred', 'pub starred : ℕ', UNQUOTED + 'pub starred'),
-    ('a hypothesis of a theorem on a line of its own', 'crates/reader/specs/laws/EditionSentences.antt', 'text\n    → ((readIn', 'text\n    → Fit text\n    → ((readIn',
+    ('a hypothesis of a theorem on a line of its own', 'crates/reader/specs/laws/EditionSentences.antt', 'text\n    → (((read_in', 'text\n    → Fit text\n    → (((read_in',
      UNQUOTED + '→ Fit text'),
-    ('a requirement that is laid out otherwise', WRITE, ' -> Written\n    ensures number', ' -> Written\n  requires { ⌜ 0 ≡ 0 ⌝ }\n    ensures number', 'is not on a line below'),
+    ('a requirement that is laid out otherwise', WRITE, ' -> Written\n    ensures number', ' -> Written\n  requires { 0 ≡ 0 }\n    ensures number', 'is not on a line below'),
     ('a blank line in a contract', WRITE, '    ensures promise', '\n    ensures promise', 'is not on a line below'),
 )
 

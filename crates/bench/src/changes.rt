@@ -33,8 +33,7 @@ fn changed(s: Study, change: u32, place: u32) -> Study {
 }
 
 // A text read, its study reopened, and a change made k times, each on the study after the one before. How many sources there are then.
-#[unsafe(no_mangle)]
-pub extern "C" fn study_changes(text: &[u8], change: u32, place: u32, k: u32) -> usize {
+pub fn study_changes(text: &[u8], change: u32, place: u32, k: u32) -> usize {
     let reading = reader::read(text);
     let opened = reopen(reading.study);
     let mut study = opened.study;

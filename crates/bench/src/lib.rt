@@ -23,8 +23,7 @@ use network::report::report;
 use network::study::Study;
 use writer::write;
 
-#[unsafe(no_mangle)]
-pub extern "C" fn enclosure_add(a: f64, b: f64, c: f64, d: f64, re: &mut f64, im: &mut f64)
+pub fn enclosure_add(a: f64, b: f64, c: f64, d: f64, re: &mut f64, im: &mut f64)
     ensures { record { re = re.new; im = im.new } ≡ added (record { re = a; im = b }) (record { re = c; im = d }) }
 {
     let r = enclosure::add(Complex { re: a, im: b }, Complex { re: c, im: d });
@@ -32,8 +31,7 @@ pub extern "C" fn enclosure_add(a: f64, b: f64, c: f64, d: f64, re: &mut f64, im
     *im = r.im;
 }
 
-#[unsafe(no_mangle)]
-pub extern "C" fn enclosure_inverse(a: f64, b: f64, re: &mut f64, im: &mut f64)
+pub fn enclosure_inverse(a: f64, b: f64, re: &mut f64, im: &mut f64)
     ensures { record { re = re.new; im = im.new } ≡ inverted (record { re = a; im = b }) }
 {
     let r = enclosure::inverse(Complex { re: a, im: b });
@@ -41,8 +39,7 @@ pub extern "C" fn enclosure_inverse(a: f64, b: f64, re: &mut f64, im: &mut f64)
     *im = r.im;
 }
 
-#[unsafe(no_mangle)]
-pub extern "C" fn enclosure_scale(a: f64, b: f64, p: u32, q: u32, re: &mut f64, im: &mut f64)
+pub fn enclosure_scale(a: f64, b: f64, p: u32, q: u32, re: &mut f64, im: &mut f64)
     ensures { record { re = re.new; im = im.new } ≡ scaled p q (record { re = a; im = b }) }
 {
     let r = enclosure::scale(Complex { re: a, im: b }, p, q);
@@ -50,8 +47,7 @@ pub extern "C" fn enclosure_scale(a: f64, b: f64, p: u32, q: u32, re: &mut f64, 
     *im = r.im;
 }
 
-#[unsafe(no_mangle)]
-pub extern "C" fn enclosure_root_below(m: f64) -> u64
+pub fn enclosure_root_below(m: f64) -> u64
     ensures { result ≡ root_below m }
 {
     enclosure::roots::root_below(m)
@@ -85,8 +81,7 @@ fn sums(s: Study, n: u32, k: u32) -> f64
 }
 
 // A text read, and k queries of its study, going round over the buses up to `last`.
-#[unsafe(no_mangle)]
-pub extern "C" fn network_sums(text: &[u8], last: u8, k: u32) -> f64
+pub fn network_sums(text: &[u8], last: u8, k: u32) -> f64
     ensures { result ≡ sums_of (read_of text.now).network (last + 1) k }
 {
     let reading = reader::read(text);
@@ -122,8 +117,7 @@ fn reports(s: Study, table: &mut [f64], k: u32) -> f64
 }
 
 // A text read, and k reports of its study.
-#[unsafe(no_mangle)]
-pub extern "C" fn network_reports(text: &[u8], table: &mut [f64], k: u32) -> f64
+pub fn network_reports(text: &[u8], table: &mut [f64], k: u32) -> f64
     ensures { reported_times (read_of text.now).network table.old k ≡ (table.new, result) }
 {
     let reading = reader::read(text);
@@ -145,8 +139,7 @@ fn writes(s: Study, buffer: &mut [u8], k: u32) -> usize
 }
 
 // A text read, and its study written k times.
-#[unsafe(no_mangle)]
-pub extern "C" fn study_writes(text: &[u8], buffer: &mut [u8], k: u32) -> usize
+pub fn study_writes(text: &[u8], buffer: &mut [u8], k: u32) -> usize
     ensures { written_times (read_of text.now).network buffer.old k ≡ (buffer.new, result) }
 {
     let reading = reader::read(text);
@@ -169,8 +162,7 @@ fn breakings(s: Study, n: u32, delay: u32, table: &mut [f64], k: u32) -> f64
 }
 
 // A text read, and k breaking calls of its study, going round over the buses up to `last`.
-#[unsafe(no_mangle)]
-pub extern "C" fn network_breakings(
+pub fn network_breakings(
     text: &[u8],
     last: u8,
     delay: u32,
