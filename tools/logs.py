@@ -22,6 +22,8 @@ ELSEWHERE = re.compile(r"but this has type `(?:[\w.]*\bNeed-|goal\.|[^`\s]*\.Goa
 FOLLOWS = re.compile(r"[^`]*`[^`]+`: `[^`]+` was not admitted|[^`]*error: \d+ declarations? that depends? on ")
 # A limit that is the prover's own, which it meets without a verdict on the fact.
 LIMIT = re.compile(r"antt ran out of |outgrew the memory limit|stopped at the step limit")
+# How the reason begins where only a name or a form is at fault.
+BY_SHAPE = "refused only for its shape: "
 PROVED = re.compile(r"^logic=proved ", re.M)
 NOT_PROVED = re.compile(r"^logic=not-proved", re.M)
 # A function whose goals no file answers, and which are open: the prover searched for their proofs itself.
@@ -60,7 +62,7 @@ def judge(log):
         return "refused only by a limit of the prover: " + first[:240]
     if name and not name.startswith(STATEMENT) and not MISFIT.search(QUOTED.sub("", first)[:400]) and not ELSEWHERE.search(first):
         return None
-    return "refused only for its shape: " + first.removeprefix("./")[:240]
+    return BY_SHAPE + first.removeprefix("./")[:240]
 
 
 # ---- the log of several edits that were tried together

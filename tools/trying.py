@@ -13,6 +13,9 @@ So an edit counts as refused by such a run where its function is not proved and 
 fact, as in a run for it alone; and only where nothing is at fault that was not changed. Every other edit is tried alone, and what that
 says counts. So a group can save time, and lets no edit pass that would not be refused alone.
 
+An edit of a body can also change the names that the proof's answers go by, which is no fact. Where that is what the log says, the edit is
+tried once more with answers that follow the code (tools/following.py), and what that says counts.
+
 An edit of specs/ is tried first on the crate without its functions: its types, constants, definitions and laws. No definition and no law
 rests on a function, so a law that fails there fails in the whole crate. An edit that is not refused there is tried on the whole."""
 import os
@@ -23,10 +26,11 @@ import tempfile
 import time
 from contextlib import contextmanager
 from pathlib import Path
-from threading import Condition
+from threading import Condition, Lock
 
 from edits import change_of, changes_specs, edited, groups_of, misplaced, read, together, without_functions
-from logs import NOT_PROVED, PROVED, judge, refused_each
+from following import followed, read_names
+from logs import BY_SHAPE, NOT_PROVED, PROVED, judge, refused_each
 
 # The folder of a crate that holds its quick edits. It lies beside must-fail/, since rt ci takes each file below that for an edit of its own.
 QUICK = "must-fail-quick"
@@ -170,7 +174,7 @@ class Quick:
         self.name, self.edits, self.pool = name, edits, pool
         self.copies, self.bare, self.is_proved = None, None, False
         self.lines, self.reasons, self.seconds = {}, {}, 0
-        self.changed = Condition()
+        self.changed, self.naming, self.named = Condition(), Lock(), None
 
     # what was found
 
@@ -260,10 +264,36 @@ class Quick:
             write(top / "crates" / self.name, texts)
             return check(top, self.name, "--jobs", "1")
 
+    def names(self, top):
+        """The names that the code of the crate of a copy gives to goals and steps."""
+        with tempfile.TemporaryDirectory(prefix="names-", dir=self.copies.place) as folder:
+            check(top, self.name, "--jobs", "1", "--generated", folder, "--old-names")
+            return read_names(folder)
+
+    def log_followed(self, texts):
+        """The same as log_with, with answers that follow the code; None if none has to."""
+        with self.copies.one(self.name, self.top) as top:
+            crate = top / "crates" / self.name
+            with self.naming:
+                self.named = self.named or self.names(top)
+            write(crate, texts)
+            answers = followed(crate, self.named, self.names(top))
+            write(crate, answers)
+            return check(top, self.name, "--jobs", "1") if answers else None
+
+    def reason_alone(self, edit, of):
+        """Why an edit that is tried alone is not refused for a fact, or None."""
+        texts = edited(edit, self.crate)
+        reason = judge(self.log_with(of, texts))
+        if reason and reason.startswith(BY_SHAPE) and of is self.top and any(file.startswith("src/") for file in texts):
+            log = self.log_followed(texts)
+            reason = judge(log) if log else reason
+        return reason
+
     def try_alone(self, edit, of=None):
         began = time.monotonic()
         try:
-            reason = judge(self.log_with(of or self.top, edited(edit, self.crate)))
+            reason = self.reason_alone(edit, of or self.top)
         except (ValueError, OSError) as error:
             reason = f"BAD EDIT: {error}"
         if of and reason:
