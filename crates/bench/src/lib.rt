@@ -162,13 +162,7 @@ fn breakings(s: Study, n: u32, delay: u32, table: &mut [f64], k: u32) -> f64
 }
 
 // A text read, and k breaking calls of its study, going round over the buses up to `last`.
-pub fn network_breakings(
-    text: &[u8],
-    last: u8,
-    delay: u32,
-    table: &mut [f64],
-    k: u32,
-) -> f64
+pub fn network_breakings(text: &[u8], last: u8, delay: u32, table: &mut [f64], k: u32) -> f64
     ensures { broken_times (read_of text.now).network (last + 1) delay table.old k ≡ (table.new, result) }
 {
     let reading = reader::read(text);
