@@ -1,5 +1,5 @@
 -- The converters' part by recursion from a bus towards bus 0, as the code calculates it. That it is `carried` of Grid is proved in
--- laws/ConvertersByRoot.
+-- proofs/ConvertersByRoot.
 use Rattle.std.specs.Prelude.{ℕ, zero, suc}
 use Rattle.enclosure.specs.Exact.{Ops}
 use Rattle.tree.specs.Grid.{toward, Grid, parent_of, upward, downward}

@@ -13,8 +13,6 @@ pub mod SeenErrors
 pub mod Sweeps
 pub mod Equations
 pub mod EachBusOnce
-pub mod ConvertersByRoot
-pub mod CurrentErrors
 pub mod BusSums
 pub mod Shares
 pub mod Ratios

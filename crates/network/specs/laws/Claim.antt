@@ -27,8 +27,8 @@ use Rattle.tree.specs.laws.Accuracy.{Accurate, accurate_more, accurate_good}
 use Rattle.tree.specs.laws.TreeBounds.{sound_proper}
 use Rattle.tree.specs.laws.FeederReaches.{seen_reactive}
 use Rattle.tree.specs.laws.SeenErrors.{seen_near, seen_low, seen_high}
-use Rattle.tree.specs.laws.ConvertersByRoot.{carried_proper}
-use Rattle.tree.specs.laws.CurrentErrors.{carried_near, carried_range, carried_most}
+use Rattle.tree.proofs.ConvertersByRoot.{carried_proper}
+use Rattle.tree.proofs.CurrentErrors.{carried_near, carried_range, carried_most}
 use Rattle.network.specs.Network.{Network}
 use Rattle.network.specs.laws.Rebuilt.{Rebuilt}
 use Rattle.network.specs.laws.AcceptedRecords.{bus_volts, few_buses}

@@ -20,7 +20,7 @@ use Rattle.tree.specs.laws.TreeBounds.{Sound, Levels, CurrentBounds}
 use Rattle.tree.specs.laws.Sums.{sums}
 use Rattle.tree.specs.Converters.{to_root, gathered, carried_by}
 use Rattle.tree.specs.laws.Converters.{to_root_related, from_root_related}
-use Rattle.tree.specs.laws.ConvertersByRoot.{carried_proper, carried_root}
+use Rattle.tree.proofs.ConvertersByRoot.{carried_proper, carried_root}
 
 -- ---- m to the power of d
 abbrev power : ℕ → ℕ → ℕ
