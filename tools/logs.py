@@ -28,6 +28,7 @@ PROVED = re.compile(r"^logic=proved ", re.M)
 NOT_PROVED = re.compile(r"^logic=not-proved", re.M)
 # A function whose goals no file answers, and which are open: the prover searched for their proofs itself.
 SEARCHED = re.compile(r"\w+ .*: no proof: .*`search` did not prove ")
+SEARCHED_FOR = re.compile(r"\w+ (\S+): no proof: .*?`search` did not prove `([^`]+)`")
 # The verdict on one function or type that is not proved, and its ending where that is the fault of another that it calls.
 UNPROVED = re.compile(r"\w+ (\S+): (?:not proved|no proof)")
 BY_ANOTHER = re.compile(r"[:;] it calls `")
@@ -63,6 +64,22 @@ def judge(log):
     if name and not name.startswith(STATEMENT) and not MISFIT.search(QUOTED.sub("", first)[:400]) and not ELSEWHERE.search(first):
         return None
     return BY_SHAPE + first.removeprefix("./")[:240]
+
+
+def fact_in(log, function=None):
+    """What a log of a refused edit says first of a fact whose proof fails: the name of a law, an answer or a goal. Of several edits that were
+    tried together, what it says in the proof of this function."""
+    entries = entries_of(log)
+    crate = function and function.split("::")[0]
+    for entry in errors_of(entries):
+        name = ERROR.match(entry)[1]
+        if name and (function is None or function_of(entry, crate) == function):
+            return name
+    for entry in entries:
+        found = SEARCHED_FOR.match(entry)
+        if found and (function is None or found[1] == function):
+            return found[2]
+    return None
 
 
 # ---- the log of several edits that were tried together

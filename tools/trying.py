@@ -30,7 +30,7 @@ from threading import Condition, Lock
 
 from edits import change_of, changes_specs, edited, groups_of, misplaced, read, together, without_functions
 from following import followed, read_names
-from logs import BY_SHAPE, NOT_PROVED, PROVED, judge, refused_each
+from logs import BY_SHAPE, NOT_PROVED, PROVED, fact_in, judge, refused_each
 
 # The folder of a crate that holds its quick edits. It lies beside must-fail/, since rt ci takes each file below that for an edit of its own.
 QUICK = "must-fail-quick"
@@ -42,6 +42,11 @@ TRIED = re.compile(r"rt: must-fail (\w+/\S+): (.*)")
 AS_IT_MUST = "refused, as it must be"
 WEAKLY = f"{AS_IT_MUST} (only "
 REFUSED = "refused, a proof no longer goes through"
+
+
+def by(fact):
+    """The name of the fact that refuses an edit, as a line shows it."""
+    return f": {fact}" if fact else ""
 
 
 def counted(reasons):
@@ -281,25 +286,25 @@ class Quick:
             write(crate, answers)
             return check(top, self.name, "--jobs", "1") if answers else None
 
-    def reason_alone(self, edit, of):
-        """Why an edit that is tried alone is not refused for a fact, or None."""
+    def log_alone(self, edit, of):
+        """What rt check says of the crate of a copy with one edit, with answers that follow the code where they have to."""
         texts = edited(edit, self.crate)
-        reason = judge(self.log_with(of, texts))
-        if reason and reason.startswith(BY_SHAPE) and of is self.top and any(file.startswith("src/") for file in texts):
-            log = self.log_followed(texts)
-            reason = judge(log) if log else reason
-        return reason
+        log = self.log_with(of, texts)
+        if of is self.top and any(file.startswith("src/") for file in texts) and (judge(log) or "").startswith(BY_SHAPE):
+            log = self.log_followed(texts) or log
+        return log
 
     def try_alone(self, edit, of=None):
-        began = time.monotonic()
+        began, fact = time.monotonic(), None
         try:
-            reason = self.reason_alone(edit, of or self.top)
+            log = self.log_alone(edit, of or self.top)
+            reason, fact = judge(log), fact_in(log)
         except (ValueError, OSError) as error:
             reason = f"BAD EDIT: {error}"
         if of and reason:
             self.let([edit], self.try_alone, edit)
         else:
-            self.found(edit, reason, f" ({time.monotonic() - began:.1f} s{' without functions' if of else ''})")
+            self.found(edit, reason, f"{by(fact)} ({time.monotonic() - began:.1f} s{' without functions' if of else ''})")
 
     def try_definition(self, edit):
         self.try_alone(edit, self.bare)
@@ -311,7 +316,8 @@ class Quick:
         refused = refused_each(log, {f"{self.name}::{change.function}" for change in group})
         for change in group:
             if f"{self.name}::{change.function}" in refused:
-                self.found(change.edit, None, f" ({time.monotonic() - began:.1f} s for {len(group)})")
+                fact = fact_in(log, f"{self.name}::{change.function}")
+                self.found(change.edit, None, f"{by(fact)} ({time.monotonic() - began:.1f} s for {len(group)})")
             else:
                 self.let([change.edit], self.try_alone, change.edit)
 
