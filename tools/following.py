@@ -2,16 +2,22 @@
 
 rt names the goals of a function, and the steps that an answer cites, after the code: `returns-then-p-lt100` after `if p < 100`. An edit that
 makes it `p < 99` leaves an answer for a goal that is no longer there, and the check refuses that name before it looks at any fact. rt also
-numbers goals and steps in the order of the code. Where the numbered names of a function are the same with the edit as without, each name
-stands for the same place, and the answers are given the new one. What they prove stays as it is."""
+numbers goals and steps of one kind in the order of the code. Where a function has as many of a kind with the edit as without, each numbered
+name stands for the same place, and the answers are given the new one. What they prove stays as it is."""
 import json
 import re
+from collections import Counter
 from pathlib import Path
 
 # A name in a proof file: what stands between spaces, brackets and dots.
 NAME = re.compile(r"(?<![^\s(){}\[\],;.])[^\s(){}\[\],;.]+")
 # What rt puts before the name of a loop, and before that of a place.
 BEFORE_LOOPS = ("", "invariant-", "decreases-", "iterator-")
+
+
+def kind_of(name):
+    """A numbered name without its number: `returns` of `returns-2`, `wide` of `wide2`."""
+    return re.sub(r"-?\d+$", "", name)
 
 
 def names_by_place(entry):
@@ -22,14 +28,25 @@ def names_by_place(entry):
     return found | {("loop", loop[0][0]): loop[0][1] for loop in entry["loops"]}
 
 
+def derived(old, new, kind):
+    """The names that rt makes of another: of a loop's those of its invariant, of a test's those of its two branches."""
+    if kind == "loop":
+        return {word + old: word + new for word in BEFORE_LOOPS}
+    if kind == "step" and old.startswith("if-") and new.startswith("if-"):
+        return {word + old[3:]: word + new[3:] for word in ("then-", "else-")}
+    return {}
+
+
 def renamed(before, after):
-    """The names that an edit changes in one function, or None if its numbered names are not the same."""
+    """The names that an edit changes in one function: of each kind of which there are as many as before."""
     old, new = names_by_place(before), names_by_place(after)
-    if old.keys() != new.keys():
-        return None
-    pairs = {old[key]: new[key] for key in old if old[key] != new[key]}
-    loops = {word + old[key]: word + new[key] for key in old if key[0] == "loop" and old[key] != new[key] for word in BEFORE_LOOPS}
-    return pairs | loops
+    many = [Counter((part, kind_of(name)) for part, name in names) for names in (old, new)]
+    table = {}
+    for part, name in old.keys() & new.keys():
+        kind = (part, kind_of(name))
+        if many[0][kind] == many[1][kind] and old[part, name] != new[part, name]:
+            table |= {old[part, name]: new[part, name]} | derived(old[part, name], new[part, name], part)
+    return table
 
 
 def read_names(folder):
@@ -39,7 +56,7 @@ def read_names(folder):
 
 
 def followed(crate, before, after):
-    """The proof files of a crate with the names that an edit changes, by their path: of functions whose places are the same."""
+    """The proof files of a crate with the names that an edit changes, by their path."""
     texts = {}
     for key in before.keys() & after.keys():
         table = renamed(before[key], after[key]) if before[key] != after[key] else None
